@@ -92,7 +92,15 @@ pub(crate) fn sweep_all<T: Source>(
     ensures none_failed { OnOk result (T.faults trace.new ≡ T.faults trace.old) }
 {
     let capacities = capacities.capacities(alloc)?;
-    match sweep(alloc, format, &capacities, asked.warmup, asked.delay, trace) {
+    match sweep(
+        alloc,
+        format,
+        &capacities,
+        &[],
+        asked.warmup,
+        asked.delay,
+        trace,
+    ) {
         Ok(swept) => Ok(sweep_report(alloc, format, asked, capacities.len() as u64, &swept)?),
         Err(fault) => Err(refusal_of_sweep(fault)),
     }

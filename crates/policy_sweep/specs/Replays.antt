@@ -1,5 +1,5 @@
 -- Policies side by side, as far as they were told, and what they have counted in the end.
-use Rattle.std.specs.Prelude.{◌≡◌, ◌≢◌, ℕ, ◌+◌, ◌<◌, ◌^◌, List, length, slice_index_or, Some}
+use Rattle.std.specs.Prelude.{◌≡◌, ◌≢◌, ℕ, ◌+◌, ◌<◌, ◌^◌, ◌==◌, ◌&&◌, Bool, List, length, slice_index_or, Some}
 use Rattle.policy_model.specs.declared.names.PolicyName.{PolicyName}
 use Rattle.policy_model.specs.declared.names.PolicyName.TheVariants.{Belady}
 use Rattle.policy_model.specs.States.{start_of}
@@ -19,6 +19,10 @@ pub record HasGone (told : Told) (objects : ℕ) (settings : List Setting) (t : 
   pub ahead_of : (i : ℕ) (s : Setting) → i < length settings → (slice_index_or settings i s).name ≢ Belady
   pub running : (i : ℕ) (s : Setting) (d : Running) → i < length settings
       → IsRunning told (slice_index_or settings i s).name (slice_index_or settings i s).capacity objects gone (slice_index_or replays.running.items i d)
+
+-- there is no policy, and nothing that one has not gone through
+abbrev pub is_idle : PolicyReplays → Bool
+is_idle replays = (length replays.running.items == 0) && (length replays.batch.items == 0)
 
 -- they have gone through some trace
 pub record HasGoneSome (replays : PolicyReplays) : Type 0 where

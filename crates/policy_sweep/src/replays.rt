@@ -3,7 +3,7 @@ ghost use Rattle.std.specs.Prelude.{◌≡◌, ◌≢◌, ◌+◌, ◌<◌, ◌�
 ghost use Rattle.policy_model.specs.declared.names.PolicyName.TheVariants.{Belady};
 ghost use Rattle.policy_sweep.specs.declared.running.Running.{Running};
 ghost use Rattle.policy_sweep.specs.Running.{Advances, IsAnyRunning, IsToldRequest, Setting, Told};
-ghost use Rattle.policy_sweep.specs.Replays.{AreReplays, HasGone, HasGoneSome, IsNextOfSome};
+ghost use Rattle.policy_sweep.specs.Replays.{AreReplays, HasGone, HasGoneSome, IsNextOfSome, is_idle};
 
 use crate::running::Running;
 use bound_base::NoMemory;
@@ -79,6 +79,13 @@ impl PolicyReplays {
         let one = Running::new(alloc, name, capacity, objects)?;
         self.running.push(one)?;
         Ok(())
+    }
+
+    /// Whether there is no policy.
+    pub fn is_idle(&self) -> bool
+        ensures { result ≡ is_idle self.now }
+    {
+        self.running.is_empty() && self.batch.is_empty()
     }
 
     // All policies go through the batch.

@@ -62,6 +62,15 @@ pub own_version : (trace : List Object) (z : Object) (number : ℕ)
     → position (same_object z) (objects_of trace) ≡ Some number → object_numbered trace number ≡ z → number < length (objects_of trace) → IsVersion trace z z number
 own_version trace z number found object known = record { same = same_id-refl z; found = found; object = object; known = known }
 
+-- what is kept, unless it is this number, is another one
+pub other-number : (number : ℕ) (kept : Option ℕ) → IfSome (other_than number kept) (λ k. k ≢ number)
+other-number number None = tt
+other-number number (Some k) = at (eqb k number) refl
+  where
+    at : (b : Bool) → eqb k number ≡ b → IfSome (cond b None (Some k)) (λ n. n ≢ number)
+    at true e = tt
+    at false e = eqb-false k number e
+
 module _ (trace : List Object) (z : Object) (number : ℕ) (own : IsVersion trace z z number) where
   -- one number is of one size
   one_size : (y : Object) (k : ℕ) → IsVersion trace z y k → eqb k number ≡ eqb y.size z.size
@@ -98,12 +107,3 @@ module _ (trace : List Object) (z : Object) (number : ℕ) (own : IsVersion trac
       at : (b : Bool) → IfSome (cond b None (Some k)) (λ n. n < length (objects_of trace))
       at true = tt
       at false = keeps.known
-
-  -- and another one
-  pub other_than-other : (kept : Option ℕ) → IfSome (other_than number kept) (λ k. k ≢ number_of trace z)
-  other_than-other None = tt
-  other_than-other (Some k) = at (eqb k number) refl
-    where
-      at : (b : Bool) → eqb k number ≡ b → IfSome (cond b None (Some k)) (λ n. n ≢ number_of trace z)
-      at true e = tt
-      at false e = λ same. eqb-false k number e (same ∙ number_of-found trace z number own.found)

@@ -3,7 +3,7 @@ use Rattle.std.specs.Prelude.{◌≡◌, ℕ, ◌<◌, ◌==◌, if◌then◌els
 use Rattle.std.specs.declared.option.Option.{Option}
 use Rattle.std.specs.Map.{lookup}
 use Rattle.cache_model.specs.declared.objects.Object.{Object}
-use Rattle.cache_model.specs.Claim.{same_object}
+use Rattle.cache_model.specs.Claim.{request_at, same_object}
 use Rattle.cache_model.specs.Objects.{objects_of}
 use Rattle.policy_model.specs.Asks.{object_numbered}
 use Rattle.freshness.specs.declared.id.Id.{Id}
@@ -18,6 +18,12 @@ pub record IsVersion (trace : List Object) (x y : Object) (number : ℕ) : Type 
   pub found : position (same_object y) (objects_of trace) ≡ Some number
   pub object : object_numbered trace number ≡ y
   pub known : number < length (objects_of trace)
+
+-- request t of the trace is for this object, which has this number
+pub record IsRequestOf (trace : List Object) (t : ℕ) (x : Object) (number : ℕ) : Type 0 where
+  pub within : t < length trace
+  pub asked : request_at trace t ≡ x
+  pub version : IsVersion trace x x number
 
 -- a number is kept exactly if there is an object, and is its number
 abbrev pub Keeps : List Object → Object → Option Object → Option ℕ → Type 0

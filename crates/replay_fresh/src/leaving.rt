@@ -15,8 +15,8 @@ use freshness::Id;
 use indexmap::IndexMap;
 use replay_core::{LetGo, Policy};
 
-// Lets go of the object of this number, if there is one.
-fn let_go_of<P: LetGo>(policy: &mut P, object: Option<u32>)
+/// Lets go of the object of this number, if there is one.
+pub fn let_go_of<P: LetGo>(policy: &mut P, object: Option<u32>)
     requires known { IfSome object (λ k. k < P.objects policy.old) }
     ensures contents { P.contents policy.new ≡ members_without (P.contents policy.old) (option_to_list object) }
     ensures same_capacity { P.room policy.new ≡ P.room policy.old }

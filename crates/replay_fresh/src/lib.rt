@@ -10,5 +10,6 @@ mod replacing;
 mod replaying;
 
 pub use laws::nothing_leaves;
-pub use leaving::let_leave;
+pub use leaving::{let_go_of, let_leave};
+pub use replacing::replaced_by;
 pub use replaying::{replay_fresh, unless_stale};

@@ -8,6 +8,7 @@ use crate::asked::Asked;
 use crate::counting::counted_more;
 use bound_base::NoMemory;
 use replay_core::{LetGo, Outcome, Replay};
+use replay_fresh::let_go_of;
 use std::alloc::Global;
 
 // Whether the answer is a hit.
@@ -23,19 +24,6 @@ fn own_leaving(asked: &Asked) -> Option<u32>
     ensures same { IfSome result (λ k. k ≡ asked.now.object) }
 {
     asked.is_stale.then_some(asked.object)
-}
-
-// Lets go of the object of this number, if there is one.
-fn let_go_of<P: LetGo>(policy: &mut P, object: Option<u32>)
-    requires known { IfSome object (λ k. k < P.objects policy.old) }
-    ensures contents { P.contents policy.new ≡ members_without (P.contents policy.old) (option_to_list object) }
-    ensures same_capacity { P.room policy.new ≡ P.room policy.old }
-    ensures same_objects { P.objects policy.new ≡ P.objects policy.old }
-    ensures state { LetsGoAll (P.known_state policy.old) (P.known_state policy.new) (option_to_list object) }
-{
-    if let Some(object) = object {
-        policy.let_go(object);
-    }
 }
 
 // Lets go of what leaves before the request.

@@ -8,7 +8,7 @@ use Rattle.cache_model.specs.declared.objects.Object.{Object}
 use Rattle.cache_model.specs.Claim.{only_fills, request_at, same_object}
 use Rattle.cache_model.specs.Objects.{IsNew, objects_of}
 use Rattle.cache_model.proofs.DifferentObjects.{IsLatest-early, IsLatest-pushed, length-pushed, objects_of-pushed_again, objects_of-pushed_new, request_at-early, request_at-pushed}
-use Rattle.cache_model.proofs.Duality.{same_object-true}
+use Rattle.cache_model.proofs.Duality.{same_object-refl, same_object-true}
 use Rattle.cache_model.proofs.Pairs.{same_object-sym}
 use Rattle.area_sums.specs.Spans.{Span}
 use Rattle.area_sums.specs.Groups.{AreSumsOf}
@@ -102,3 +102,17 @@ module _ (trace : List Object) (x : Object) where
             ∙ spans_of-pushed trace x old.warmup old.delay fills marks only (lookup (same_object x) old.latest) marked last (h.latest x)
             ∙ ap (λ t. spans_of old.warmup old.delay fills trace
             ++ span_if x.size (cond (nat_le old.warmup t && not only) (length_since old.delay t (lookup (same_object x) old.latest)) None)) (sym h.requests)
+
+-- an object that was asked for is known
+pub never-new : (trace : List Object) (x : Object) (fills : List Bool) (sweep : Sweep) → HasSeen (trace ++ x ∷ []) fills sweep → is_some (lookup (same_object x) sweep.latest) ≡ true
+never-new trace x fills sweep h = at (lookup (same_object x) sweep.latest) (h.latest x)
+  where
+    last : same_object x (request_at (trace ++ x ∷ []) (length trace)) ≡ true
+    last = ap (same_object x) (request_at-pushed trace x) ∙ same_object-refl x
+
+    at : (found : Option ℕ) → IsLatestOrNew (trace ++ x ∷ []) x found → is_some found ≡ true
+    at None new =
+        let never : same_object x (request_at (trace ++ x ∷ []) (length trace)) ≡ false = new (length trace) (omega (arith, length-pushed trace x)) in
+        let both : false ≡ true = sym never ∙ last in
+        both
+    at (Some a) latest = refl

@@ -1,6 +1,8 @@
 //! One pass over the requests of a trace.
-ghost use Rattle.std.specs.Prelude.{◌≡◌, ◌&&◌, not, nat_le, ◌+◌, ◌<◌, ◌≤◌, ◌^◌, ◌∷◌, ◌++◌, [], List, Bool, false, Some, None, if◌then◌else◌, length, IfOk, IfSome, OnOk, OnErr};
+ghost use Rattle.std.specs.Prelude.{◌≡◌, ◌&&◌, not, nat_le, ◌+◌, ◌<◌, ◌≤◌, ◌^◌, ◌∷◌, ◌++◌, [], List, Bool, false, true, Some, None, if◌then◌else◌, length, position, IfOk, IfSome, OnOk, OnErr};
+ghost use Rattle.std.specs.Option.{is_some};
 ghost use Rattle.cache_model.specs.declared.objects.Object.{Object};
+ghost use Rattle.cache_model.specs.Claim.{same_object};
 ghost use Rattle.cache_model.specs.Objects.{objects_of};
 ghost use Rattle.area_sums.specs.Spans.{Span};
 ghost use Rattle.area_sums.specs.Groups.{AreCapacities, AreSumsOf};
@@ -120,6 +122,13 @@ impl SweepBounds {
         Ok(())
     }
 
+    /// How many requests the warm-up has.
+    pub fn warmup(&self) -> u32
+        ensures { result ≡ self.now.warmup }
+    {
+        self.warmup
+    }
+
     /// How many requests there were.
     pub fn requests(&self) -> u32
         ensures { result ≡ self.now.requests }
@@ -132,6 +141,15 @@ impl SweepBounds {
         ensures { (trace : List Object) (fills : List Bool) → HasSeen trace fills self.now → result ≡ length (objects_of trace) }
     {
         self.latest.len() as u32
+    }
+
+    /// The number of an object that was asked for, in the order in which they first were. It takes constant time on average.
+    pub fn number_of(&self, object: Object) -> Option<u32>
+        ensures number { (trace : List Object) (fills : List Bool) → HasSeen trace fills self.now → result ≡ position (same_object object) (objects_of trace) }
+        ensures found { (trace : List Object) (fills : List Bool) → HasSeen (trace ++ object ∷ []) fills self.now → is_some result ≡ true }
+    {
+        let index = self.latest.get_index_of(&object)?;
+        Some(index as u32)
     }
 
     /// The least bounds at each of the capacities, in their order. At each capacity it goes over the classes of the sums.

@@ -1,9 +1,10 @@
 -- What is counted of the requests as they pass.
-use Rattle.std.proofs.Common.{◌≡◌, ◌∙◌, ℕ, suc, ◌+◌, ◌<◌, ◌≤◌, ap, sym, subst, refl, arith, Bool, true, false, cond, nat_le, not, ◌&&◌, ◌||◌, List, [], ◌∷◌, ◌++◌, length, length-append, get_or, count_by}
+use Rattle.std.proofs.Common.{◌≡◌, ◌∙◌, ℕ, suc, ◌+◌, ◌^◌, ◌<◌, ◌≤◌, ap, sym, subst, refl, arith, Bool, true, false, cond, nat_le, nat_lt, not, ◌&&◌, ◌||◌, List, [], ◌∷◌, ◌++◌, length, length-append, get_or, count_by}
 use Rattle.std.specs.List.{range_with_len}
+use Rattle.std.proofs.lemmas.Bool.{and_from, or_right}
 use Rattle.std.proofs.lemmas.List.{get_or_append_left, get_or_push}
 use Rattle.cache_model.specs.declared.objects.Object.{Object}
-use Rattle.cache_model.specs.Claim.{counts_past}
+use Rattle.cache_model.specs.Claim.{counts_past, only_fills}
 use Rattle.cache_model.specs.Objects.{numbers_of}
 use Rattle.cache_model.proofs.Streams.{sum_by-range_agree}
 use Rattle.cache_model.proofs.Streams.{sum_by-range_last}
@@ -11,11 +12,14 @@ use Rattle.cache_rules.specs.Stored.{Requests, with_request}
 use Rattle.freshness.specs.Stale.{can_end}
 use Rattle.freshness.specs.Seen.{Staleness}
 use Rattle.trace_any.specs.declared.format.Format.{Format}
-use Rattle.trace_any.specs.Counts.{is_stale, own_marks}
+use Rattle.trace_any.specs.Counts.{own_marks}
 use Rattle.trace_any.specs.Readers.{NotesRequest, Reader, last_fills, last_mark}
 use Rattle.trace_any.specs.Readings.{has_marks, is_marked}
 use Rattle.sweep_bounds.specs.Sweep.{HasSeen, Sweep}
+use Rattle.policy_stream.specs.declared.request.Request.{Request}
+use Rattle.policy_stream.specs.Streams.{IsOneMore}
 use Rattle.trace_sweep.specs.Counts.{more}
+use Rattle.trace_sweep.specs.Online.{told_of}
 use Rattle.trace_sweep.specs.Swept.{IsTally}
 use Rattle.trace_sweep.specs.declared.tally.Tally.{Tally}
 
@@ -31,6 +35,10 @@ count-more p q n same =
 pub more-le : (count : ℕ) (so : Bool) → more count so ≤ count + 1
 more-le count true = omega arith
 more-le count false = omega arith
+
+-- what is after a number that is past
+later-past : (warmup n : ℕ) → nat_lt warmup (n + 1) ≡ nat_le warmup n
+later-past warmup n = grind arith
 
 -- the flags of the first numbers, and one more
 module _ (flags : List Bool) (flag : Bool) (n : ℕ) (each : length flags ≡ n) where
@@ -57,6 +65,7 @@ pub record IsAligned (format : Format) (trace : Requests) (noted : Staleness) : 
   pub none : is_marked format ≡ false → trace.fills ≡ []
   pub stale : can_end format.fresh ≡ true → length noted.stale ≡ length trace.objects
   pub own : can_end format.fresh ≡ true → length noted.own ≡ length trace.objects
+  pub lasting : can_end format.fresh ≡ false → noted.stale ≡ []
 
 or-false : (b : Bool) → b || false ≡ b
 or-false true = refl
@@ -84,6 +93,12 @@ module _ (format : Format) (old new : Reader) (trace : Requests) (x : Object) (f
   stale_after ends =
       ap (λ s. s.noted.stale) (rw (ends_old true ends) at notes.0)
       ∙ ap (λ b. old.seen.noted.stale ++ b ∷ []) (rw (ends_old true ends) at (sym notes.1))
+
+  stale-same : can_end format.fresh ≡ false → new.seen.noted.stale ≡ old.seen.noted.stale
+  stale-same ends = ap (λ s. s.noted.stale) (rw (ends_old false ends) at notes.0)
+
+  stale-none : can_end format.fresh ≡ false → new.seen.noted.stale ≡ []
+  stale-none ends = stale-same ends ∙ aligned.lasting ends
 
   never_stale : can_end format.fresh ≡ false → new.stale ≡ false
   never_stale ends = rw (ends_old false ends) at notes.1
@@ -118,6 +133,7 @@ module _ (format : Format) (old new : Reader) (trace : Requests) (x : Object) (f
     none = λ marked. fills_never marked ∙ aligned.none marked;
     stale = λ ends. omega (arith, ap length (stale_after ends), length-append old.seen.noted.stale (new.stale ∷ []), aligned.stale ends, length-append trace.objects (x ∷ []));
     own = λ ends. omega (arith, ap length (own_after ends), length-append old.seen.noted.own (own ∷ []), aligned.own ends, length-append trace.objects (x ∷ []));
+    lasting = λ ends. stale-none ends;
   }
 
   pub tallied_after : (warmup : ℕ) (tally : Tally) → IsTally format warmup trace old.seen.noted tally
@@ -141,6 +157,58 @@ module _ (format : Format) (old new : Reader) (trace : Requests) (x : Object) (f
         ∙ ap (count_by (λ t. get_or (flags ++ new.stale ∷ []) t false)) (sym numbers_after)
         ∙ ap (λ fs. count_by (λ t. get_or fs t false) (numbers_of given.objects)) (sym (stale_after ends));
   }
+
+  -- what policies are told is a request more
+  module _ (warmup : ℕ) (few : length trace.objects + 1 < 2 ^ 32) where
+    fills_now : (t : ℕ) → t < length trace.objects → only_fills given.fills t ≡ only_fills trace.fills t
+    fills_now t within = at (is_marked format) refl
+      where
+        at : (b : Bool) → is_marked format ≡ b → only_fills given.fills t ≡ only_fills trace.fills t
+        at true on = ap (λ fs. get_or fs t false) (fills_after on) ∙ before trace.fills (last_fills new) (length trace.objects) (aligned.marks on) t within
+        at false off = ap (λ fs. get_or fs t false) (fills_never off)
+
+    fill_last : (is_marked new.format && last_fills new) ≡ only_fills given.fills (length trace.objects)
+    fill_last = at (is_marked format) refl
+      where
+        at : (b : Bool) → is_marked format ≡ b → (is_marked new.format && last_fills new) ≡ only_fills given.fills (length trace.objects)
+        at true on = ap (λ b. b && last_fills new) (marked_new true on) ∙ sym (ap (λ fs. get_or fs (length trace.objects) false) (fills_after on) ∙ last trace.fills (last_fills new) (length trace.objects) (aligned.marks on))
+        at false off = ap (λ b. b && last_fills new) (marked_new false off) ∙ sym (ap (λ fs. get_or fs (length trace.objects) false) (fills_never off ∙ aligned.none off))
+
+    stale_now : (t : ℕ) → t < length trace.objects → get_or new.seen.noted.stale t false ≡ get_or old.seen.noted.stale t false
+    stale_now t within = at (can_end format.fresh) refl
+      where
+        at : (b : Bool) → can_end format.fresh ≡ b → get_or new.seen.noted.stale t false ≡ get_or old.seen.noted.stale t false
+        at true ends = ap (λ fs. get_or fs t false) (stale_after ends) ∙ before old.seen.noted.stale new.stale (length trace.objects) (aligned.stale ends) t within
+        at false ends = ap (λ fs. get_or fs t false) (stale-same ends)
+
+    stale_last : new.stale ≡ get_or new.seen.noted.stale (length trace.objects) false
+    stale_last = at (can_end format.fresh) refl
+      where
+        at : (b : Bool) → can_end format.fresh ≡ b → new.stale ≡ get_or new.seen.noted.stale (length trace.objects) false
+        at true ends = sym (ap (λ fs. get_or fs (length trace.objects) false) (stale_after ends) ∙ last old.seen.noted.stale new.stale (length trace.objects) (aligned.stale ends))
+        at false ends = never_stale ends ∙ sym (ap (λ fs. get_or fs (length trace.objects) false) (stale-none ends))
+
+    pub one-more : (request : Request) (requests : ℕ) → request.object ≡ x → requests ≡ length trace.objects + 1 → request.is_past ≡ nat_lt warmup requests
+        → request.only_fills ≡ (is_marked new.format && last_fills new) → request.is_stale ≡ new.stale
+        → IsOneMore (told_of format warmup trace old.seen.noted) (told_of format warmup given new.seen.noted) request
+    one-more request requests object now past fills stale = record {
+      part = record { rest = x ∷ []; trace = refl; fills = fills_now; stale = stale_now; replace = refl; warmup = refl };
+      one = ap (λ y. y ∷ []) (sym object);
+      past = past ∙ ap (nat_lt warmup) now ∙ later-past warmup (length trace.objects);
+      fills = fills ∙ fill_last;
+      stale = stale ∙ stale_last;
+      few = omega (arith, few, length-append trace.objects (x ∷ []));
+    }
+
+  -- a stale request only fills
+  pub stale-fills : new.stale ≡ true → (is_marked new.format && last_fills new) ≡ true
+  stale-fills stale = at (can_end format.fresh) refl
+    where
+      at : (b : Bool) → can_end format.fresh ≡ b → (is_marked new.format && last_fills new) ≡ true
+      at true ends = and_from (is_marked new.format) (last_fills new) (marked_new true (or_right (has_marks format.layout) (can_end format.fresh) ends)) (or_right own new.stale stale)
+      at false ends =
+          let both : false ≡ true = sym (never_stale ends) ∙ stale in
+          absurd cc
 
   -- a sweep that is told the request has seen it
   pub told_after : (only : Bool) (sweep later : Sweep) → only ≡ (is_marked new.format && last_fills new) → HasSeen trace.objects trace.fills sweep

@@ -1,8 +1,7 @@
 -- What comes of all that a source has left.
-use Rattle.std.proofs.Common.{◌≡◌, ◌∙◌, ℕ, ap, sym, subst, refl, Bool, true, false, cond, List, length, IfSome, None, Some}
+use Rattle.std.proofs.Common.{◌≡◌, ◌∙◌, ℕ, ap, sym, subst, refl, Bool, true, false, cond, List, length, None, Some}
 use Rattle.std.specs.declared.option.Option.{Option}
 use Rattle.std.specs.Bool.{then_some}
-use Rattle.std.specs.Option.{is_some}
 use Rattle.bound_io.specs.Devices.{Device, device}
 use Rattle.cache_model.specs.Objects.{objects_of}
 use Rattle.area_sums.specs.declared.bound.CapacityBounds.{CapacityBounds}
@@ -17,6 +16,11 @@ use Rattle.trace_any.specs.Readers.{HasSeenAll, LeavesNone, LoadsAll, Reader, Re
 use Rattle.trace_any.specs.Readings.{Reading, has_marks}
 use Rattle.trace_any.proofs.Loads.{from_start_within, nothing_left, read_all}
 use Rattle.sweep_bounds.specs.Sweep.{AreBoundsOf, Sweep}
+use Rattle.policy_model.specs.declared.names.PolicyName.{PolicyName}
+use Rattle.policy_sweep.specs.Replays.{AreReplays}
+use Rattle.policy_stream.specs.declared.stream.PolicyStream.{PolicyStream}
+use Rattle.policy_stream.specs.Streams.{settings_of}
+use Rattle.trace_sweep.specs.Online.{told_of}
 use Rattle.trace_sweep.specs.declared.sweeping.Swept.{Swept}
 use Rattle.trace_sweep.specs.declared.tally.Tally.{Tally}
 use Rattle.trace_sweep.specs.Points.{AreSweepPoints, points_of}
@@ -38,7 +42,8 @@ told_if true n m is = ap Some (is refl)
 told_if false n m is = refl
 
 -- a sweep that was told all that a stream had to give
-module _ (format : Format) (warmup delay : ℕ) (source : Device) (new : Reader) (sweep : Sweep) (tally : Tally) (swept : HasSweptAll warmup (fresh format pass_limits) new source sweep tally) where
+module _ (format : Format) (warmup delay : ℕ) (source : Device) (new : Reader) (sweep : Sweep) (first last : PolicyStream) (tally : Tally)
+    (swept : HasSweptAll warmup (fresh format pass_limits) new source sweep first last tally) where
   counted_is : then_some (has_marks format.layout) tally.counted ≡ counted_in format warmup swept.trace new.seen.noted
   counted_is = told_if (has_marks format.layout) tally.counted _ swept.tallied.counted
 
@@ -47,11 +52,12 @@ module _ (format : Format) (warmup delay : ℕ) (source : Device) (new : Reader)
 
   -- has gone over all that the source had left
   pub swept_whole : (before after : Option (List ℕ)) (faults_before faults_after : ℕ) → source ≡ device before after faults_before faults_after
-      → (capacities : List ℕ) (bounds : List CapacityBounds) (found : Swept) → sweep.warmup ≡ warmup → sweep.delay ≡ delay → sweep.sums.capacities ≡ capacities → AreBoundsOf sweep bounds
+      → (capacities : List ℕ) (names : List PolicyName) (bounds : List CapacityBounds) (found : Swept) → sweep.warmup ≡ warmup → sweep.delay ≡ delay → sweep.sums.capacities ≡ capacities → AreBoundsOf sweep bounds
       → found.requests ≡ sweep.requests → found.objects ≡ length (objects_of swept.trace.objects) → found.dropped ≡ new.dropped
       → found.counted ≡ then_some (has_marks format.layout) tally.counted → found.late ≡ new.seen.noted.late → found.stale ≡ then_some (can_end format.fresh) tally.stale
-      → found.points.items ≡ points_of capacities bounds → IsSwept format capacities warmup delay source found
-  swept_whole before after faults_before faults_after is capacities bounds found same_warmup same_delay same_capacities are requests objects dropped counted late stale points = record {
+      → found.points.items ≡ points_of capacities bounds → AreReplays (told_of format warmup swept.trace new.seen.noted) (settings_of names capacities) found.replays.items
+      → IsSwept format capacities names warmup delay source found
+  swept_whole before after faults_before faults_after is capacities names bounds found same_warmup same_delay same_capacities are requests objects dropped counted late stale points replays = record {
     trace = swept.trace;
     notes = record { dropped = new.dropped; noted = new.seen.noted };
     read = subst (λ d. IsRead pass_limits format d swept.trace (record { dropped = new.dropped; noted = new.seen.noted })) (sym is)
@@ -66,4 +72,5 @@ module _ (format : Format) (warmup delay : ℕ) (source : Device) (new : Reader)
     late = late;
     stale = stale ∙ stale_is;
     points = subst (AreSweepPoints warmup delay swept.trace capacities) (sym points) (points-are sweep swept.trace bounds warmup delay capacities same_warmup same_delay same_capacities are swept.seen);
+    replays = replays;
   }

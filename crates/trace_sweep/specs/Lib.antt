@@ -1,3 +1,4 @@
 pub mod Counts
+pub mod Online
 pub mod Points
 pub mod Swept

@@ -8,7 +8,7 @@ use Rattle.cache_rules.specs.Stored.{Requests}
 use Rattle.freshness.specs.Stale.{can_end}
 use Rattle.freshness.specs.Seen.{Staleness}
 use Rattle.trace_any.specs.declared.fault.TraceFault.{TraceFault}
-use Rattle.trace_any.specs.declared.fault.TraceFault.TheVariants.{BadLine, ReadFault, InputTooLong, TooManyRequests, NoMemory}
+use Rattle.trace_any.specs.declared.fault.TraceFault.TheVariants.{ReadFault, NoMemory}
 use Rattle.trace_any.specs.declared.format.Format.{Format}
 use Rattle.trace_any.specs.Counts.{counted_in, is_stale, own_marks, stale_in}
 use Rattle.trace_any.specs.FirstLines.{HasLostThrough}
@@ -16,12 +16,18 @@ use Rattle.trace_any.specs.Loads.{IsRead, IsRefusedWithin, pass_limits}
 use Rattle.trace_any.specs.Readers.{Notes, Reader, LoadsAll, LeavesNone, HasSeenAll}
 use Rattle.trace_any.specs.Readings.{has_marks}
 use Rattle.sweep_bounds.specs.Sweep.{HasSeen, Sweep}
+use Rattle.policy_model.specs.declared.names.PolicyName.{PolicyName}
+use Rattle.policy_sweep.specs.Running.{Setting}
+use Rattle.policy_sweep.specs.Replays.{AreReplays}
+use Rattle.policy_stream.specs.declared.stream.PolicyStream.{PolicyStream}
+use Rattle.policy_stream.specs.Streams.{HasBeenTold, HasBegun, settings_of}
+use Rattle.trace_sweep.specs.Online.{told_of}
 use Rattle.trace_sweep.specs.Points.{AreSweepPoints}
 use Rattle.trace_sweep.specs.declared.sweeping.Swept.{Swept}
 use Rattle.trace_sweep.specs.declared.tally.Tally.{Tally}
 
 -- all that the source had left was read in one pass, and its requests have these counts and bounds
-pub record IsSwept (format : Format) (capacities : List ℕ) (warmup delay : ℕ) (source : Device) (swept : Swept) : Type 0 where
+pub record IsSwept (format : Format) (capacities : List ℕ) (policies : List PolicyName) (warmup delay : ℕ) (source : Device) (swept : Swept) : Type 0 where
   pub trace : Requests
   pub notes : Notes
   pub read : IsRead pass_limits format source trace notes
@@ -32,6 +38,7 @@ pub record IsSwept (format : Format) (capacities : List ℕ) (warmup delay : ℕ
   pub late : swept.late ≡ notes.noted.late
   pub stale : swept.stale ≡ stale_in format trace notes.noted
   pub points : AreSweepPoints warmup delay trace capacities swept.points.items
+  pub replays : AreReplays (told_of format warmup trace notes.noted) (settings_of policies capacities) swept.replays.items
 
 -- what the source had left is refused so within the limits of one pass, and little was lost beyond what refuses it; or a read failed, or memory ran out
 abbrev pub IsNotSwept : Format → Device → TraceFault → Type 0
@@ -44,11 +51,12 @@ pub record IsTally (format : Format) (warmup : ℕ) (trace : Requests) (noted : 
   pub counted : has_marks format.layout ≡ true → tally.counted ≡ count_by (counts_past warmup (own_marks format trace noted)) (numbers_of trace.objects)
   pub stale : can_end format.fresh ≡ true → tally.stale ≡ count_by (is_stale noted) (numbers_of trace.objects)
 
--- a sweep was told all that a stream had to give, and so many of the requests count and are stale
-pub record HasSweptAll (warmup : ℕ) (old new : Reader) (source : Device) (sweep : Sweep) (tally : Tally) : Type 0 where
+-- a sweep was told all that a stream had to give, and so were policies, and so many of the requests count and are stale
+pub record HasSweptAll (warmup : ℕ) (old new : Reader) (source : Device) (sweep : Sweep) (before after : PolicyStream) (tally : Tally) : Type 0 where
   pub trace : Requests
   pub whole : LoadsAll old source.before trace new.dropped
   pub end : LeavesNone old new source
   pub seen_all : HasSeenAll old source.before new
   pub seen : HasSeen trace.objects trace.fills sweep
   pub tallied : IsTally old.format warmup trace new.seen.noted tally
+  pub told : (settings : List Setting) → HasBegun settings before → HasBeenTold (told_of old.format warmup trace new.seen.noted) settings after

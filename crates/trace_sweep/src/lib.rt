@@ -6,6 +6,7 @@
 mod points;
 mod sweeping;
 mod tally;
+mod telling;
 
 pub use points::SweepPoint;
 pub use sweeping::{Swept, sweep};

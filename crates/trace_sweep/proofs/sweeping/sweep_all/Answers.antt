@@ -1,4 +1,4 @@
-use Rattle.std.proofs.Common.{◌≡◌, ◌∙◌, ℕ, refl, sym, ap, subst, arith, nat_le, not, ◌&&◌, length, length-append, None, [], ◌∷◌, IfSome}
+use Rattle.std.proofs.Common.{◌≡◌, ◌∙◌, refl, sym, ap, subst, arith, nat_le, nat_lt, ◌+◌, not, ◌&&◌, length, length-append, [], ◌∷◌, rules}
 use Rattle.std.proofs.lemmas.Result.{err_from_is_err_and}
 use Rattle.bound_io.proofs.KnownLemmas.{loses_then, reads_then_err, reads_then_ok}
 use Rattle.bound_io.specs.Devices.{seen}
@@ -9,10 +9,13 @@ use Rattle.trace_any.specs.Readers.{NotesRequest, Reader, last_mark}
 use Rattle.trace_any.proofs.Coming.{after_all, goes_nowhere, loads_more, loads_past, loses_nothing, past_room}
 use Rattle.trace_any.proofs.Lost.{lost_if, lost_through}
 use Rattle.trace_any.proofs.Stopping.{given_more, nothing_given, of_fault, rests_after, stands_given, stands_then, through_given}
+use Rattle.policy_stream.specs.Streams.{HasBeenTold}
+use Rattle.policy_stream.proofs.Telling.{begun-told}
 use Rattle.trace_sweep.specs.Counts.{more}
+use Rattle.trace_sweep.specs.Online.{told_of}
 use Rattle.trace_sweep.specs.Swept.{IsTally}
 use Rattle.trace_sweep.specs.declared.tally.Tally.{Tally}
-use Rattle.trace_sweep.proofs.Tallies.{aligned_after, more-le, tallied_after, told_after}
+use Rattle.trace_sweep.proofs.Tallies.{aligned_after, more-le, one-more, tallied_after, told_after}
 use Rattle.trace_sweep.proofs.sweeping.sweep_all.Goals as goal
 
 pub loop-object-init : goal.loop-object-init
@@ -38,10 +41,13 @@ loop-object-init g c =
         none = λ _. refl;
         stale = λ _. ap (λ (r : Reader). length r.seen.noted.stale) begins;
         own = λ _. ap (λ (r : Reader). length r.seen.noted.own) begins;
+        lasting = λ _. ap (λ (r : Reader). r.seen.noted.stale) begins;
       };
       tallied = record { counted = λ _. refl; stale = λ _. refl };
       counted = omega arith;
       stale = omega arith;
+      told = λ settings begun.
+          begun-told (told_of c.args.stream.now.format c.args.bounds.now.warmup none c.args.stream.now.seen.noted) settings c.args.policies.now refl (sym c.requires.replace) begun;
     }
 
 pub loop-object-preserved : goal.loop-object-preserved
@@ -57,8 +63,9 @@ loop-object-preserved g c =
     let form : new.format ≡ format = n.format ∙ i.format in
     let told = c.in_ok-request.ensures in
     let size = length-append i.trace.objects (object ∷ []) in
+    let seen_now = told_after format old new i.trace object form i.format notes i.aligned c.last_fills.result c.loop-object.bounds c.request.new.self c.last_fills.ensures i.seen told.seen told.seen_unmarked in
     let counts : c.is_counted-counts.result ≡ (nat_le c.args.bounds.now.warmup (length i.trace.objects) && not new.ahead.stamp.fills) =
-    c.is_counted-counts.ensures ∙ ap (λ w. nat_le w c.requests.result && not c.last_own.result) (sym c.requires.warmup)
+    c.is_counted-counts.ensures ∙ ap (λ w. nat_le w c.requests.result && not c.last_own.result) c.warmup-warmup.ensures
     ∙ ap (λ t. nat_le c.args.bounds.now.warmup t && not c.last_own.result) (c.requests.ensures ∙ i.seen.requests) ∙ ap (λ own. nat_le c.args.bounds.now.warmup (length i.trace.objects) && not own) c.last_own.ensures in
     let tally : c.with-tally.result ≡ record {
       counted = more c.loop-object.tally.counted (nat_le c.args.bounds.now.warmup (length i.trace.objects) && not new.ahead.stamp.fills);
@@ -75,7 +82,7 @@ loop-object-preserved g c =
       given_all = given_more c.args.stream.now old new i.trace object (last_mark new) _ _ (rests_after i.trace c.args.stream.now old _ _ i.goes_on) i.given_all (rw (c.in-Some.is) at (c.in_ok-object.ensures.lines i.fault));
       source = loses_then _ _ _ (n.reads.source.0) i.source (n.reads.source.1);
       none_failed = c.in_ok-object.ensures.reads.none_failed ∙ i.none_failed;
-      seen = told_after format old new i.trace object form i.format notes i.aligned c.last_fills.result c.loop-object.bounds c.request.new.self c.last_fills.ensures i.seen told.seen told.seen_unmarked;
+      seen = seen_now;
       warmup = told.warmup ∙ i.warmup;
       delay = told.delay ∙ i.delay;
       capacities = told.capacities ∙ i.capacities;
@@ -83,6 +90,12 @@ loop-object-preserved g c =
       tallied = subst (IsTally format c.args.bounds.now.warmup (with_request i.trace object (last_mark new)) new.seen.noted) (sym tally) (tallied_after format old new i.trace object form i.format notes i.aligned c.args.bounds.now.warmup c.loop-object.tally i.tallied);
       counted = omega (arith, size, i.counted, more-le c.loop-object.tally.counted c.is_counted-counts.result, ap (λ (t : Tally). t.counted) c.with-tally.ensures);
       stale = omega (arith, size, i.stale, more-le c.loop-object.tally.stale c.last_stale.result, ap (λ (t : Tally). t.stale) c.with-tally.ensures);
+      told = λ settings begun.
+          c.in_ok-tell.ensures.told (told_of format c.args.bounds.now.warmup i.trace old.seen.noted) (told_of format c.args.bounds.now.warmup (with_request i.trace object (last_mark new)) new.seen.noted)
+          settings (with_request i.trace object (last_mark new)).fills seen_now
+          (one-more format old new i.trace object form i.format notes i.aligned c.args.bounds.now.warmup (omega (arith, next.0, i.given, n.few.1, n.few.2)) _ c.requests-in-Some.result refl
+          (c.requests-in-Some.ensures ∙ told.requests ∙ ap (λ m. m + 1) i.seen.requests) (ap (λ w. nat_lt w c.requests-in-Some.result) c.warmup-warmup.ensures) c.last_fills-in-Some.ensures c.last_stale-in-Some.ensures)
+          (i.told settings begun);
     }
 
 pub returns-in_err-object-clause-reads : goal.returns-in_err-object-clause-reads
@@ -132,3 +145,53 @@ returns-in_err-request-clause-lost g c =
     i.goes_on i.given_all (rw (c.in-Some.is) at (c.in_ok-object.ensures.next i.fault)).1 (rw (c.in-Some.is) at (c.in_ok-object.ensures.lines i.fault)) in
     lost_if c.from_residual-in_err-request.result c.args.stream.now c.next.new.self (seen g.S.Source.left g.S.Source.faults c.args.source.now c.next.new.source) c.requires.begins c.next.ensures.ahead
     (of_fault c.from_residual-in_err-request.result NoMemory (StopsNoFurther c.args.stream.now c.next.new.self (seen g.S.Source.left g.S.Source.faults c.args.source.now c.next.new.source)) c.from_residual-in_err-request.ensures.1 (tt, stands))
+
+pub tell-requires-clause-next : goal.tell-requires-clause-next
+tell-requires-clause-next g c =
+    let i = c.loop-object.invariant in
+    let n = c.next.ensures in
+    let object = c.in-Some.object in
+    let old = c.loop-object.stream in
+    let new = c.next.new.self in
+    let format = c.args.stream.now.format in
+    let next = rw (c.in-Some.is) at (c.in_ok-object.ensures.next i.fault) in
+    let notes : NotesRequest old new object = rw (c.in-Some.is) at c.in_ok-object.ensures.noted in
+    let form : new.format ≡ format = n.format ∙ i.format in
+    let told = c.in_ok-request.ensures in
+    let begun = c.requires.begun in
+    record {
+      told = told_of format c.args.bounds.now.warmup i.trace old.seen.noted;
+      next = told_of format c.args.bounds.now.warmup (with_request i.trace object (last_mark new)) new.seen.noted;
+      settings = begun.0;
+      fills = (with_request i.trace object (last_mark new)).fills;
+      been_told = i.told begun.0 begun.1;
+      one_more =
+          one-more format old new i.trace object form i.format notes i.aligned c.args.bounds.now.warmup (omega (arith, next.0, i.given, n.few.1, n.few.2)) _ c.requests-in-Some.result refl
+          (c.requests-in-Some.ensures ∙ told.requests ∙ ap (λ m. m + 1) i.seen.requests) (ap (λ w. nat_lt w c.requests-in-Some.result) c.warmup-warmup.ensures) c.last_fills-in-Some.ensures c.last_stale-in-Some.ensures;
+      seen = told_after format old new i.trace object form i.format notes i.aligned c.last_fills.result c.loop-object.bounds c.request.new.self c.last_fills.ensures i.seen told.seen told.seen_unmarked;
+    }
+
+pub returns-in_err-tell-clause-reads : goal.returns-in_err-tell-clause-reads
+returns-in_err-tell-clause-reads g c = reads_then_ok _ _ _ _ _ _ _ _ _ _ c.loop-object.invariant.source c.loop-object.invariant.none_failed c.in_ok-object.ensures.reads
+
+pub returns-in_err-tell-clause-lost : goal.returns-in_err-tell-clause-lost
+returns-in_err-tell-clause-lost g c =
+    let i = c.loop-object.invariant in
+    let stands = stands_given i.trace c.args.stream.now c.loop-object.stream c.next.new.self c.next.new.self c.in-Some.object (last_mark c.next.new.self) _ _ (g.S.Source.left c.next.new.source) refl refl
+    i.goes_on i.given_all (rw (c.in-Some.is) at (c.in_ok-object.ensures.next i.fault)).1 (rw (c.in-Some.is) at (c.in_ok-object.ensures.lines i.fault)) in
+    lost_if c.from_residual-in_err-tell.result c.args.stream.now c.next.new.self (seen g.S.Source.left g.S.Source.faults c.args.source.now c.next.new.source) c.requires.begins c.next.ensures.ahead
+    (of_fault c.from_residual-in_err-tell.result NoMemory (StopsNoFurther c.args.stream.now c.next.new.self (seen g.S.Source.left g.S.Source.faults c.args.source.now c.next.new.source)) c.from_residual-in_err-tell.ensures.1 (tt, stands))
+
+pub returns-clause-swept : goal.returns-clause-swept
+returns-clause-swept g c =
+    let i = c.loop-object.invariant in
+    let same : c.next.new.self.seen ≡ c.loop-object.stream.seen = rw (c.in_default.is) at c.in_ok-object.ensures.noted in
+    record {
+      trace = i.trace;
+      whole = search rules;
+      end = search rules;
+      seen_all = search rules;
+      seen = i.seen;
+      tallied = search rules;
+      told = λ settings begun. subst (λ noted. HasBeenTold (told_of c.args.stream.now.format c.args.bounds.now.warmup i.trace noted.noted) settings c.loop-object.policies) (sym same) (i.told settings begun);
+    }

@@ -1,10 +1,13 @@
-use Rattle.std.proofs.Common.{◌≡◌, ℕ, ◌-◌, ◌≤◌, length, None, IfSome}
+use Rattle.std.proofs.Common.{◌≡◌, ◌-◌, ◌≤◌, List, length, None, IfSome}
 use Rattle.bound_io.specs.Reading.{LosesPrefix}
 use Rattle.cache_rules.specs.Stored.{Requests}
 use Rattle.sweep_bounds.specs.Sweep.{HasSeen}
 use Rattle.trace_any.specs.FirstLines.{HasGiven}
 use Rattle.trace_any.specs.Readers.{GoesOn, known}
 use Rattle.trace_any.proofs.Coming.{after_all}
+use Rattle.policy_sweep.specs.Running.{Setting}
+use Rattle.policy_stream.specs.Streams.{HasBeenTold, HasBegun}
+use Rattle.trace_sweep.specs.Online.{told_of}
 use Rattle.trace_sweep.specs.Swept.{IsTally}
 use Rattle.trace_sweep.proofs.Tallies.{IsAligned}
 use Rattle.trace_sweep.proofs.sweeping.sweep_all.Given as goal
@@ -29,6 +32,7 @@ invariant-loop-object g l = record {
   tallied : IsTally l.initial.stream.format l.initial.bounds.warmup trace l.stream.seen.noted l.tally;
   counted : l.tally.counted ≤ length trace.objects;
   stale : l.tally.stale ≤ length trace.objects;
+  told : (settings : List Setting) → HasBegun settings l.initial.policies → HasBeenTold (told_of l.initial.stream.format l.initial.bounds.warmup trace l.stream.seen.noted) settings l.policies;
 }
 
 abbrev pub decreases-loop-object : goal.decreases-loop-object
