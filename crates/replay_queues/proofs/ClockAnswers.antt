@@ -77,7 +77,7 @@ pub came-behind : (objects capacity in_use more size : ℕ) (h left after : Hand
     → IsCounted objects capacity (more + size) after
 came-behind objects capacity in_use more size h left after is table held k behind ahead counted fits = record {
   range = is.range;
-  each_object = table ∙ is.each_object;
+  within = subst (λ n. n ≤ objects) (sym table) is.within;
   in_use_is = omega (
     arith,
     counted,

@@ -13,4 +13,7 @@ pub mod PartAnswers
 pub mod QueueLemmas
 pub mod QueueLeavings
 pub mod QueueAnswers
+pub mod GrowLemmas
+pub mod RoomLemmas
 pub mod S3FifoAnswers
+pub mod RoomAnswers

@@ -54,7 +54,7 @@ once-insert (x ∷ b) m a once absent =
     )
 
 -- what the second part begins with is not in the first
-begins-apart : (none : ℕ) (b a : List Member) → Once (b ++ a) → has_member (b ++ a) none ≡ false → has_member b (first_of none a) ≡ false
+pub begins-apart : (none : ℕ) (b a : List Member) → Once (b ++ a) → has_member (b ++ a) none ≡ false → has_member b (first_of none a) ≡ false
 begins-apart none b [] once absent = (or_parts _ _ (sym (has_member-append b [] none) ∙ absent)).0
 begins-apart none b (m ∷ a) once absent = once-middle b m a once
 

@@ -119,7 +119,7 @@ module _ (objects capacity requests in_use : ℕ) (t : ThreeQueues) (is : IsS3Fi
   pub hit-s3fifo : IsS3Fifo objects capacity in_use hit_queues
   hit-s3fifo = record {
     range = is.range;
-    each_object = length-set t.table k hit_cell ∙ is.each_object;
+    within = subst (λ n. n ≤ objects) (sym (length-set t.table k hit_cell)) is.within;
     in_use_is = is.in_use_is ∙ queue-bytes t.table (items_of t.parts.small) (items_of t.parts.main) t.parts.ghosts ∙ sym (queue-bytes (set t.table k hit_cell) (items_of t.parts.small) (items_of t.parts.main) t.parts.ghosts);
     fits = is.fits;
     queued = record {
@@ -149,7 +149,7 @@ pub entered-s3fifo : (objects capacity in_use more size : ℕ) (t left after : T
     → (k : ℕ) → queues_at after ≡ enter (counted_entry 2 (k, size)) (queues_at left) → more ≡ queues_used (queues_at left) → more + size ≤ capacity → IsS3Fifo objects capacity (more + size) after
 entered-s3fifo objects capacity in_use more size t left after is table queued k put counted_is fits = record {
   range = is.range;
-  each_object = table ∙ is.each_object;
+  within = subst (λ n. n ≤ objects) (sym table) is.within;
   in_use_is = (let e : Entry = counted_entry 2 (k, size) in let q : Queues = queues_at left in
       omega (
         arith,
@@ -168,7 +168,7 @@ pub left-s3fifo : (objects capacity in_use left : ℕ) (t after : ThreeQueues) �
 left-s3fifo objects capacity in_use left t after is table queued freed =
     let counted_is : in_use ≡ queues_used (queues_at t) = is.in_use_is in
     let fits : in_use ≤ capacity = is.fits in
-    record { range = is.range; each_object = table ∙ is.each_object; in_use_is = omega arith; fits = omega arith; queued = queued }
+    record { range = is.range; within = subst (λ n. n ≤ objects) (sym table) is.within; in_use_is = omega arith; fits = omega arith; queued = queued }
 
 pub kept-left : (k : ℕ) (old : Kept) (objects capacity requests : ℕ) (q after : Queues) → queues_kept objects capacity requests q ≡ old → after ≡ queues_without k q → queues_kept objects capacity requests after ≡ kept_without S3Fifo old k
 kept-left k old objects capacity requests q after view is =

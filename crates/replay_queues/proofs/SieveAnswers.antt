@@ -119,7 +119,7 @@ module _ (objects capacity requests in_use : ℕ) (h : Hand) (is : IsCounted obj
   pub marked-counted : IsCounted objects capacity in_use marked_hand
   marked-counted = record {
     range = is.range;
-    each_object = length-set h.table k 2 ∙ is.each_object;
+    within = subst (λ n. n ≤ objects) (sym (length-set h.table k 2)) is.within;
     in_use_is = is.in_use_is ∙ cut-bytes h.table (behind_items h) (ahead_items h) ∙ sym (cut-bytes (set h.table k 2) (behind_items h) (ahead_items h));
     fits = is.fits;
     held = record {
@@ -150,7 +150,7 @@ pub came-ahead : (objects capacity in_use more size : ℕ) (h left after : Hand)
     → (k : ℕ) → cut_at after ≡ come_in (marked_entry 1 (k, size)) (cut_at left) → more ≡ cut_used (cut_at left) → more + size ≤ capacity → IsCounted objects capacity (more + size) after
 came-ahead objects capacity in_use more size h left after is table held k put counted fits = record {
   range = is.range;
-  each_object = table ∙ is.each_object;
+  within = subst (λ n. n ≤ objects) (sym table) is.within;
   in_use_is = omega (arith, ap cut_used put, sum_by_push (λ (e : Entry). e.size) (cut_at left).ahead (marked_entry 1 (k, size)));
   fits = fits;
   held = held;
@@ -162,7 +162,7 @@ pub left-counted : (objects capacity in_use left : ℕ) (h after : Hand) → IsC
 left-counted objects capacity in_use left h after is table held freed =
     let counted : in_use ≡ cut_used (cut_at h) = is.in_use_is in
     let fits : in_use ≤ capacity = is.fits in
-    record { range = is.range; each_object = table ∙ is.each_object; in_use_is = omega arith; fits = omega arith; held = held }
+    record { range = is.range; within = subst (λ n. n ≤ objects) (sym table) is.within; in_use_is = omega arith; fits = omega arith; held = held }
 
 pub kept-left : (k : ℕ) (old : Kept) (objects capacity requests : ℕ) (cut after : Cut) → cut_kept objects capacity requests cut ≡ old → after ≡ cut_without k cut → cut_kept objects capacity requests after ≡ kept_without Sieve old k
 kept-left k old objects capacity requests cut after view is =

@@ -50,10 +50,10 @@ abbrev pub cut_kept : ℕ → ℕ → ℕ → Cut → Kept
 cut_kept objects capacity requests cut =
     record { objects = objects; capacity = capacity; now = requests; entries = (stock_of_cut cut).entries; beside = (stock_of_cut cut).beside }
 
--- the bytes used are counted and fit
+-- there is room for no more than these objects, and the bytes used are counted and fit
 pub record IsCounted (objects capacity in_use : ℕ) (h : Hand) : Type 0 where
   pub range : capacity ≤ 2 ^ 56
-  pub each_object : length h.table ≡ objects
+  pub within : length h.table ≤ objects
   pub in_use_is : in_use ≡ cut_used (cut_at h)
   pub fits : in_use ≤ capacity
   pub held : IsHand h

@@ -57,10 +57,10 @@ abbrev pub queues_kept : ℕ → ℕ → ℕ → Queues → Kept
 queues_kept objects capacity requests q =
     record { objects = objects; capacity = capacity; now = requests; entries = (stock_of_queues q).entries; beside = (stock_of_queues q).beside }
 
--- the bytes used are counted and fit
+-- there is room for no more than these objects, and the bytes used are counted and fit
 pub record IsS3Fifo (objects capacity in_use : ℕ) (t : ThreeQueues) : Type 0 where
   pub range : capacity ≤ 2 ^ 56
-  pub each_object : length t.table ≡ objects
+  pub within : length t.table ≤ objects
   pub in_use_is : in_use ≡ queues_used (queues_at t)
   pub fits : in_use ≤ capacity
   pub queued : IsQueued t

@@ -17,7 +17,8 @@ use std::marker::Model;
 /// that comes in is the last that it comes to.
 ///
 /// A request takes constant time on average, for itself and for each look of the hand. A look gives up an object or
-/// clears the mark of a hit. It takes 17 bytes for each object from the start.
+/// clears the mark of a hit. It takes 17 bytes for each object up to the greatest that came in, and up to a quarter more.
+/// As it makes room for others, it takes both for a moment.
 #[derive(Drop)]
 pub struct Clock {
     capacity: u64,
@@ -41,7 +42,7 @@ impl Model for Clock {
 }
 
 impl Clock {
-    /// A policy that holds nothing, with its capacity in bytes. It takes 17 bytes for each object.
+    /// A policy that holds nothing, with its capacity in bytes, for objects numbered below `objects`.
     pub fn new(alloc: Global, capacity: u64, objects: u32) -> Result<Self, NoMemory>
         requires range { (1 ≤ capacity) × (capacity ≤ 2 ^ 56) }
         ensures nothing { IfOk result (λ policy. policy ≡ nothing_kept objects capacity) }
@@ -51,32 +52,34 @@ impl Clock {
             objects,
             requests: 0,
             used: 0,
-            hand: Hand::new(alloc, objects)?,
+            hand: Hand::new(alloc, 0)?,
         })
     }
 
     // One request, as the rule says, whatever the next request is.
-    fn ask(&mut self, object: u32, size: u64) -> Outcome
+    fn ask(&mut self, alloc: Global, object: u32, size: u64) -> Result<Outcome, NoMemory>
         requires known { object < self.old.objects }
         requires kept_size { All (λ m. m.object ≡ object → m.size ≡ size) (contents_of self.old) }
-        ensures answers { (next : Option ℕ) → Answers ByClock self.old self.new object size next result }
+        ensures answers { IfOk result (λ outcome. (next : Option ℕ) → Answers ByClock self.old self.new object size next outcome) }
         ensures fits { IsSound self.new.capacity (contents_of self.new) }
+        ensures kept { OnErr result (self.new ≡ self.old) }
     {
         let requests = self.requests.saturating_add(1);
         if self.hand.holds(object) {
             self.hand.mark(object);
             self.requests = requests;
-            return Outcome::Hit;
+            return Ok(Outcome::Hit);
         }
         if size > self.capacity {
             self.requests = requests;
-            return Outcome::Miss;
+            return Ok(Outcome::Miss);
         }
+        self.hand.reach(alloc, object, self.objects)?;
         self.used = self.hand.make_room(self.used, self.capacity, size);
         self.hand.come_in_behind(object, size);
         self.used += size;
         self.requests = requests;
-        Outcome::Miss
+        Ok(Outcome::Miss)
     }
 }
 
@@ -96,12 +99,12 @@ impl Policy for Clock {
     }
 
     fn holds(&self, object: u32) -> bool {
-        object < self.objects && self.hand.holds(object)
+        self.hand.holds(object)
     }
 
     fn request(
         &mut self,
-        _alloc: Global,
+        alloc: Global,
         object: u32,
         size: u64,
         _next: Option<u32>,
@@ -119,7 +122,7 @@ impl Policy for Clock {
         ensures step { OnOk result (StepsBy (Some (state_of ByClock self.old)) (Some (state_of ByClock self.new)) object size _next) }
         ensures kept { OnErr result (self.new ≡ self.old) }
     {
-        Ok(self.ask(object, size))
+        self.ask(alloc, object, size)
     }
 
     ghost state_fits = { λ p. (refl, refl) };

@@ -1,5 +1,5 @@
 //! The line of SIEVE or of CLOCK and its hand, which goes from the front to the back.
-ghost use Rattle.std.specs.Prelude.{◌≡◌, ◌≤◌, ◌<◌, ◌^◌, ◌+◌, ◌++◌, ◌∷◌, [], length, replicate, true, false, IfOk, slice_index, slice_set};
+ghost use Rattle.std.specs.Prelude.{◌≡◌, ◌≤◌, ◌<◌, ◌^◌, ◌+◌, ◌/◌, ◌++◌, ◌∷◌, [], length, max, replicate, true, false, IfOk, OnOk, OnErr, slice_index, slice_set};
 ghost use Rattle.policy_model.specs.Leaving.{cut_without, without_member};
 ghost use Rattle.policy_model.specs.Sieve.{look, cut_used, begin_again, come_in};
 ghost use Rattle.policy_model.specs.Steps.{without_entry};
@@ -7,7 +7,7 @@ ghost use Rattle.replay_queues.specs.Lines.{first_of, from_object};
 ghost use Rattle.replay_queues.specs.SieveQueues.{is_held, marked_entry, cut_at, with_room, IsHand};
 
 use crate::line::Line;
-use crate::table::Table;
+use crate::table::{Table, room_for};
 use bound_base::NoMemory;
 use std::alloc::Global;
 
@@ -42,10 +42,44 @@ impl Hand {
         })
     }
 
+    // Makes room for objects numbered below this.
+    fn grow(&mut self, alloc: Global, objects: u32) -> Result<(), NoMemory>
+        requires more { length self.old.table ≤ objects }
+        requires held { IsHand self.old }
+        ensures cut { cut_at self.new ≡ cut_at self.old }
+        ensures held { IsHand self.new }
+        ensures room { OnOk result (length self.new.table ≡ objects) }
+        ensures stays { OnErr result (self.new ≡ self.old) }
+    {
+        let line = self.line.with_objects(alloc, objects)?;
+        let table = self.table.with_objects(alloc, objects)?;
+        self.next = self.next_with(objects);
+        self.line = line;
+        self.table = table;
+        Ok(())
+    }
+
+    /// Makes room for an object of those numbered below `objects`, if there is none. It takes constant time, amortized.
+    pub(crate) fn reach(&mut self, alloc: Global, object: u32, objects: u32) -> Result<(), NoMemory>
+        requires known { object < objects }
+        requires within { length self.old.table ≤ objects }
+        requires held { IsHand self.old }
+        ensures room { OnOk result (object < length self.new.table) }
+        ensures within { length self.new.table ≤ objects }
+        ensures few { length self.new.table ≤ max (object + 1) (length self.old.table + length self.old.table / 4) }
+        ensures cut { cut_at self.new ≡ cut_at self.old }
+        ensures held { IsHand self.new }
+    {
+        let before = self.line.none();
+        if object < before {
+            return Ok(());
+        }
+        self.grow(alloc, room_for(object, before, objects))
+    }
+
     /// Whether an object is held.
     #[inline(always)]
     pub(crate) fn holds(&self, object: u32) -> bool
-        requires { object < length self.now.table }
         ensures { result ≡ is_held (slice_index self.now.table object) }
     {
         self.table.get(object) > GONE
@@ -74,7 +108,7 @@ impl Hand {
         }
     }
 
-    // Where the hand is once an object has come in, which is at that object if nothing was ahead.
+    // Where the hand is once this object has come in, or is the number for none: it is there if nothing was ahead.
     #[inline(always)]
     fn next_with(&self, object: u32) -> u32
         requires held { IsHand self.now }
@@ -202,7 +236,6 @@ impl Hand {
     /// Lets go of an object, if it is held, and says how many bytes it had. If nothing is then ahead of the hand, it begins
     /// again at the first.
     pub(crate) fn leave(&mut self, object: u32) -> u64
-        requires known { object < length self.old.table }
         requires held { IsHand self.old }
         ensures cut { cut_at self.new ≡ cut_without object (cut_at self.old) }
         ensures freed { cut_used (cut_at self.new) + result ≡ cut_used (cut_at self.old) }

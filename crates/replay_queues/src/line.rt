@@ -1,5 +1,5 @@
 //! Objects in a line, which any of them can leave.
-ghost use Rattle.std.specs.Prelude.{◌≡◌, ◌<◌, ◌+◌, ◌++◌, ◌∷◌, [], true, false, drop, IfOk};
+ghost use Rattle.std.specs.Prelude.{◌≡◌, ◌<◌, ◌≤◌, ◌+◌, ◌++◌, ◌∷◌, [], true, false, drop, IfOk, OnOk};
 ghost use Rattle.policy_model.specs.Leaving.{without_member};
 ghost use Rattle.policy_model.specs.States.{member, members_size, has_member};
 ghost use Rattle.replay_queues.specs.Lines.{before_object, first_of, from_object};
@@ -49,6 +49,21 @@ impl Line {
         })
     }
 
+    /// The same objects, in a line with room for those numbered below this. It takes time in that number.
+    pub(crate) fn with_objects(&self, alloc: Global, objects: u32) -> Result<Self, NoMemory>
+        requires more { self.now.objects ≤ objects }
+        ensures line { IfOk result (λ line. line ≡ record { objects = objects; members = self.now.members }) }
+        ensures past { OnOk result (has_member self.now.members objects ≡ false) }
+    {
+        let mut line = Line::new(alloc, objects)?;
+        let mut object = self.first();
+        while object != self.objects {
+            line.push(object, self.size(object));
+            object = self.after(object);
+        }
+        Ok(line)
+    }
+
     /// The number for none, which is above that of each object.
     #[inline(always)]
     pub(crate) fn none(&self) -> u32
@@ -72,6 +87,24 @@ impl Line {
         ensures { result ≡ first_of self.now.objects (drop 1 (from_object object self.now.members)) }
     {
         self.nodes[object as usize].after
+    }
+
+    // The size of an object.
+    fn size(&self, object: u32) -> u64
+        requires there { has_member self.now.members object ≡ true }
+        ensures size { from_object object self.now.members ≡ member object result ∷ drop 1 (from_object object self.now.members) }
+        ensures known { object < self.now.objects }
+    {
+        self.nodes[object as usize].size
+    }
+
+    // Puts an object at the back.
+    fn push(&mut self, object: u32, size: u64)
+        requires within { object < self.old.objects }
+        requires absent { has_member self.old.members object ≡ false }
+        ensures { self.new ≡ record self.old { members = self.old.members ++ member object size ∷ [] } }
+    {
+        self.put(object, size, self.objects);
     }
 
     /// Puts an object before another, or at the back if the other is the number for none.

@@ -1,5 +1,5 @@
 //! A small queue, a main queue and ghosts, in one line.
-ghost use Rattle.std.specs.Prelude.{◌≡◌, ◌<◌, ◌+◌, ◌++◌, ◌∷◌, ◌==◌, [], true, false, if◌then◌else◌, length, drop, IfOk, IfSome, MatchOption};
+ghost use Rattle.std.specs.Prelude.{◌≡◌, ◌<◌, ◌≤◌, ◌+◌, ◌++◌, ◌∷◌, ◌==◌, [], true, false, if◌then◌else◌, length, drop, IfOk, IfSome, OnOk, OnErr, MatchOption};
 ghost use Rattle.policy_model.specs.States.{member, has_member};
 ghost use Rattle.replay_queues.specs.ThreeParts.{has_part, parts_without, parts_size, no_members, begin_but};
 
@@ -51,7 +51,7 @@ fn begin_without(line: &Line, first: u32, object: u32) -> u32
     }
 }
 
-// Where a part of a line begins once an object has come in at its end, before `next`.
+// Where a part of a line begins once an object has come in at its end, before `next`, or is the number for none.
 #[inline(always)]
 fn begin_with(first: u32, next: u32, object: u32) -> u32
     ensures { result ≡ (if first == next then object else first) }
@@ -73,6 +73,29 @@ impl Parts {
         })
     }
 
+    /// The number of objects that there is room for.
+    pub(crate) fn objects(&self) -> u32
+        ensures { result ≡ self.now.objects }
+    {
+        self.line.none()
+    }
+
+    /// Makes room for objects numbered below this.
+    pub(crate) fn grow(&mut self, alloc: Global, objects: u32) -> Result<(), NoMemory>
+        requires more { self.old.objects ≤ objects }
+        ensures grown { OnOk result (self.new ≡ record self.old { objects = objects }) }
+        ensures stays { OnErr result (self.new ≡ self.old) }
+    {
+        let line = self.line.with_objects(alloc, objects)?;
+        let places = self.places.with_objects(alloc, objects)?;
+        let none = self.line.none();
+        self.main = begin_with(self.main, none, objects);
+        self.ghosts = begin_with(self.ghosts, none, objects);
+        self.line = line;
+        self.places = places;
+        Ok(())
+    }
+
     /// Whether the small queue is empty.
     pub(crate) fn no_small(&self) -> bool
         ensures { result ≡ no_members self.now.small }
@@ -89,7 +112,6 @@ impl Parts {
 
     /// Whether an object is in the small queue.
     pub(crate) fn is_small(&self, object: u32) -> bool
-        requires known { object < self.now.objects }
         ensures { result ≡ has_member self.now.small object }
     {
         self.places.get(object) == SMALL

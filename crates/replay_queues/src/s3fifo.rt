@@ -22,7 +22,8 @@ use std::marker::Model;
 /// meant to have.
 ///
 /// A request takes constant time on average: each move of an object uses up a hit, or is the one of a miss. It takes 18
-/// bytes for each object from the start.
+/// bytes for each object up to the greatest that came in, and up to a quarter more. As it makes room for others, it takes
+/// both for a moment.
 #[derive(Drop)]
 pub struct S3Fifo {
     capacity: u64,
@@ -45,7 +46,7 @@ impl Model for S3Fifo {
 }
 
 impl S3Fifo {
-    /// A policy that holds nothing, with its capacity in bytes. It takes 18 bytes for each object.
+    /// A policy that holds nothing, with its capacity in bytes, for objects numbered below `objects`.
     pub fn new(alloc: Global, capacity: u64, objects: u32) -> Result<Self, NoMemory>
         requires range { (1 ≤ capacity) × (capacity ≤ 2 ^ 56) }
         ensures nothing { IfOk result (λ policy. policy ≡ nothing_kept objects capacity) }
@@ -55,32 +56,34 @@ impl S3Fifo {
             objects,
             requests: 0,
             used: 0,
-            queues: ThreeQueues::new(alloc, objects)?,
+            queues: ThreeQueues::new(alloc, 0)?,
         })
     }
 
     // One request, as the rule says, whatever the next request is.
-    fn ask(&mut self, object: u32, size: u64) -> Outcome
+    fn ask(&mut self, alloc: Global, object: u32, size: u64) -> Result<Outcome, NoMemory>
         requires known { object < self.old.objects }
         requires kept_size { All (λ m. m.object ≡ object → m.size ≡ size) (contents_of self.old) }
-        ensures answers { (next : Option ℕ) → Answers ByTrial self.old self.new object size next result }
+        ensures answers { IfOk result (λ outcome. (next : Option ℕ) → Answers ByTrial self.old self.new object size next outcome) }
         ensures fits { IsSound self.new.capacity (contents_of self.new) }
+        ensures kept { OnErr result (self.new ≡ self.old) }
     {
         let requests = self.requests.saturating_add(1);
         if self.queues.holds(object) {
             self.queues.count_hit(object);
             self.requests = requests;
-            return Outcome::Hit;
+            return Ok(Outcome::Hit);
         }
         if size > self.capacity {
             self.requests = requests;
-            return Outcome::Miss;
+            return Ok(Outcome::Miss);
         }
+        self.queues.reach(alloc, object, self.objects)?;
         self.used = self.queues.make_room(self.used, self.capacity, size);
         self.queues.enter(object, size);
         self.used += size;
         self.requests = requests;
-        Outcome::Miss
+        Ok(Outcome::Miss)
     }
 }
 
@@ -100,12 +103,12 @@ impl Policy for S3Fifo {
     }
 
     fn holds(&self, object: u32) -> bool {
-        object < self.objects && self.queues.holds(object)
+        self.queues.holds(object)
     }
 
     fn request(
         &mut self,
-        _alloc: Global,
+        alloc: Global,
         object: u32,
         size: u64,
         _next: Option<u32>,
@@ -123,7 +126,7 @@ impl Policy for S3Fifo {
         ensures step { OnOk result (StepsBy (Some (state_of ByTrial self.old)) (Some (state_of ByTrial self.new)) object size _next) }
         ensures kept { OnErr result (self.new ≡ self.old) }
     {
-        Ok(self.ask(object, size))
+        self.ask(alloc, object, size)
     }
 
     ghost state_fits = { λ p. (refl, refl) };

@@ -19,7 +19,8 @@ use std::marker::Model;
 /// the oldest.
 ///
 /// A request takes constant time on average, for itself and for each look of the hand. A look gives up an object or
-/// clears the mark of a hit. It takes 17 bytes for each object from the start.
+/// clears the mark of a hit. It takes 17 bytes for each object up to the greatest that came in, and up to a quarter more.
+/// As it makes room for others, it takes both for a moment.
 #[derive(Drop)]
 pub struct Sieve {
     capacity: u64,
@@ -42,7 +43,7 @@ impl Model for Sieve {
 }
 
 impl Sieve {
-    /// A policy that holds nothing, with its capacity in bytes. It takes 17 bytes for each object.
+    /// A policy that holds nothing, with its capacity in bytes, for objects numbered below `objects`.
     pub fn new(alloc: Global, capacity: u64, objects: u32) -> Result<Self, NoMemory>
         requires range { (1 ≤ capacity) × (capacity ≤ 2 ^ 56) }
         ensures nothing { IfOk result (λ policy. policy ≡ nothing_kept objects capacity) }
@@ -52,32 +53,34 @@ impl Sieve {
             objects,
             requests: 0,
             used: 0,
-            hand: Hand::new(alloc, objects)?,
+            hand: Hand::new(alloc, 0)?,
         })
     }
 
     // One request, as the rule says, whatever the next request is.
-    fn ask(&mut self, object: u32, size: u64) -> Outcome
+    fn ask(&mut self, alloc: Global, object: u32, size: u64) -> Result<Outcome, NoMemory>
         requires known { object < self.old.objects }
         requires kept_size { All (λ m. m.object ≡ object → m.size ≡ size) (contents_of self.old) }
-        ensures answers { (next : Option ℕ) → Answers ByHand self.old self.new object size next result }
+        ensures answers { IfOk result (λ outcome. (next : Option ℕ) → Answers ByHand self.old self.new object size next outcome) }
         ensures fits { IsSound self.new.capacity (contents_of self.new) }
+        ensures kept { OnErr result (self.new ≡ self.old) }
     {
         let requests = self.requests.saturating_add(1);
         if self.hand.holds(object) {
             self.hand.mark(object);
             self.requests = requests;
-            return Outcome::Hit;
+            return Ok(Outcome::Hit);
         }
         if size > self.capacity {
             self.requests = requests;
-            return Outcome::Miss;
+            return Ok(Outcome::Miss);
         }
+        self.hand.reach(alloc, object, self.objects)?;
         self.used = self.hand.make_room(self.used, self.capacity, size);
         self.hand.come_in(object, size);
         self.used += size;
         self.requests = requests;
-        Outcome::Miss
+        Ok(Outcome::Miss)
     }
 }
 
@@ -97,12 +100,12 @@ impl Policy for Sieve {
     }
 
     fn holds(&self, object: u32) -> bool {
-        object < self.objects && self.hand.holds(object)
+        self.hand.holds(object)
     }
 
     fn request(
         &mut self,
-        _alloc: Global,
+        alloc: Global,
         object: u32,
         size: u64,
         _next: Option<u32>,
@@ -120,7 +123,7 @@ impl Policy for Sieve {
         ensures step { OnOk result (StepsBy (Some (state_of ByHand self.old)) (Some (state_of ByHand self.new)) object size _next) }
         ensures kept { OnErr result (self.new ≡ self.old) }
     {
-        Ok(self.ask(object, size))
+        self.ask(alloc, object, size)
     }
 
     ghost state_fits = { λ p. (refl, refl) };

@@ -1,11 +1,11 @@
 //! The queues of S3-FIFO.
-ghost use Rattle.std.specs.Prelude.{◌≡◌, ◌≤◌, ◌<◌, ◌^◌, ◌+◌, [], length, min, replicate, false, IfOk, slice_index, slice_set};
+ghost use Rattle.std.specs.Prelude.{◌≡◌, ◌≤◌, ◌<◌, ◌^◌, ◌+◌, ◌/◌, [], length, max, min, replicate, false, IfOk, OnOk, OnErr, slice_index, slice_set};
 ghost use Rattle.policy_model.specs.Leaving.{queues_without};
 ghost use Rattle.policy_model.specs.S3Fifo.{fade, shrink_small, shrink, queues_used, enter};
 ghost use Rattle.replay_queues.specs.SmallAndMain.{is_kept, counted_entry, queues_at, main_shrunk, with_space, IsFading, IsQueued};
 
 use crate::parts::Parts;
-use crate::table::Table;
+use crate::table::{Table, room_for};
 use bound_base::NoMemory;
 use std::alloc::Global;
 
@@ -46,10 +46,42 @@ impl ThreeQueues {
         })
     }
 
+    // Makes room for objects numbered below this.
+    fn grow(&mut self, alloc: Global, objects: u32) -> Result<(), NoMemory>
+        requires more { length self.old.table ≤ objects }
+        requires queued { IsQueued self.old }
+        ensures queues { queues_at self.new ≡ queues_at self.old }
+        ensures queued { IsQueued self.new }
+        ensures room { OnOk result (length self.new.table ≡ objects) }
+        ensures stays { OnErr result (self.new ≡ self.old) }
+    {
+        let table = self.table.with_objects(alloc, objects)?;
+        self.parts.grow(alloc, objects)?;
+        self.table = table;
+        Ok(())
+    }
+
+    /// Makes room for an object of those numbered below `objects`, if there is none. It takes constant time, amortized.
+    pub(crate) fn reach(&mut self, alloc: Global, object: u32, objects: u32) -> Result<(), NoMemory>
+        requires known { object < objects }
+        requires within { length self.old.table ≤ objects }
+        requires queued { IsQueued self.old }
+        ensures room { OnOk result (object < length self.new.table) }
+        ensures within { length self.new.table ≤ objects }
+        ensures few { length self.new.table ≤ max (object + 1) (length self.old.table + length self.old.table / 4) }
+        ensures queues { queues_at self.new ≡ queues_at self.old }
+        ensures queued { IsQueued self.new }
+    {
+        let before = self.parts.objects();
+        if object < before {
+            return Ok(());
+        }
+        self.grow(alloc, room_for(object, before, objects))
+    }
+
     /// Whether an object is held.
     #[inline(always)]
     pub(crate) fn holds(&self, object: u32) -> bool
-        requires { object < length self.now.table }
         ensures { result ≡ is_kept (slice_index self.now.table object) }
     {
         self.table.get(object) >= HELD
@@ -185,7 +217,6 @@ impl ThreeQueues {
 
     /// Lets go of an object, if it is held, and says how many bytes it had.
     pub(crate) fn leave(&mut self, object: u32) -> u64
-        requires known { object < length self.old.table }
         requires queued { IsQueued self.old }
         ensures queues { queues_at self.new ≡ queues_without object (queues_at self.old) }
         ensures freed { queues_used (queues_at self.new) + result ≡ queues_used (queues_at self.old) }

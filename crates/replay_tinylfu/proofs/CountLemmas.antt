@@ -1,5 +1,5 @@
 -- Counts that are halved late.
-use Rattle.std.proofs.Common.{◌≡◌, ℕ, zero, suc, ◌+◌, ◌-◌, ◌/◌, ◌^◌, ◌<◌, ◌≤◌, min, max, ⊎_elim, ◌∙◌, sym, refl, ap, Bool, true, false, eqb, List, [], ◌∷◌, length, map, get_or, set, arith}
+use Rattle.std.proofs.Common.{◌≡◌, ℕ, zero, suc, ◌+◌, ◌-◌, ◌/◌, ◌^◌, ◌<◌, ◌≤◌, min, max, ⊎_elim, ◌∙◌, sym, refl, ap, Bool, true, false, eqb, List, [], ◌∷◌, ◌++◌, length, map, get_or, set, replicate, arith}
 use Rattle.std.proofs.lemmas.Bool.{eqb-true, eqb-false, eq-eqb, ne_eqb, cases_lt}
 use Rattle.std.proofs.lemmas.List.{get_or_past, length-set, length-map, ext_get_or, get_or-map}
 use Rattle.std.proofs.lemmas.List.FromFn.{length-map-range_with_len, get_or-map-range_with_len}
@@ -7,6 +7,7 @@ use Rattle.std.proofs.lemmas.Nat.{pow-add}
 use Rattle.std.proofs.Math.Nat.{div-eq_of_lt, pow-le-pow_right, div-one, div-le_self, div-div-eq-div-mul}
 use Rattle.policy_model.specs.WTinyLfu.{one_more}
 use Rattle.replay_queues.proofs.ItemLemmas.{here, other}
+use Rattle.replay_queues.proofs.RoomLemmas.{grown-cell, grown-long}
 use Rattle.replay_tinylfu.specs.Counts.{count_at, counts_at, AreCounts, AreSettled}
 
 pos_pow : (n : ℕ) → 1 ≤ 2 ^ n
@@ -186,4 +187,37 @@ module _ (counts seen counts_after seen_after : List ℕ) (known halvings : ℕ)
     small = λ k. (let most : count_at counts seen halvings k ≤ 15 = count-small counts seen known halvings are k in omega (arith, settled_are.counts_are k));
     past = λ k. omega (arith, settled_are.seen_are k);
     unknown = λ k high. settled_are.counts_are k ∙ ap (λ n. n / 2 ^ (halvings - get_or seen k 0)) (are.unknown k high) ∙ zero-shift (halvings - get_or seen k 0);
+  }
+
+-- ---- room for more objects
+-- with zeros up to this length
+abbrev pub longer : ℕ → List ℕ → List ℕ
+longer objects cells = cells ++ replicate (objects - length cells) 0
+
+module _ (counts seen : List ℕ) (known halvings : ℕ) (are : AreCounts counts seen known halvings) (objects : ℕ) (more : length counts ≤ objects) where
+  more-seen : length seen ≤ objects
+  more-seen = omega (arith, are.each_seen)
+
+  grown-count : (k : ℕ) → count_at (longer objects counts) (longer objects seen) halvings k ≡ count_at counts seen halvings k
+  grown-count k =
+      ap (λ n. n / 2 ^ (halvings - get_or (longer objects seen) k 0)) (grown-cell counts (objects - length counts) k)
+      ∙ ap (λ n. get_or counts k 0 / 2 ^ (halvings - n)) (grown-cell seen (objects - length seen) k)
+
+  pub grown-counts : counts_at (longer objects counts) (longer objects seen) known halvings ≡ counts_at counts seen known halvings
+  grown-counts =
+      ext_get_or 0 (counts_at (longer objects counts) (longer objects seen) known halvings) (counts_at counts seen known halvings)
+      (length-map-range_with_len (count_at (longer objects counts) (longer objects seen) halvings) 0 known ∙ sym (length-map-range_with_len (count_at counts seen halvings) 0 known))
+      (λ k within.
+      let low : k < known = omega (arith, length-map-range_with_len (count_at (longer objects counts) (longer objects seen) halvings) 0 known) in
+      get_or-map-range_with_len (count_at (longer objects counts) (longer objects seen) halvings) 0 known k k 0 low (omega arith)
+      ∙ grown-count k ∙ sym (get_or-map-range_with_len (count_at counts seen halvings) 0 known k k 0 low (omega arith)))
+
+  pub grown-are : objects ≤ 2 ^ 31 → AreCounts (longer objects counts) (longer objects seen) known halvings
+  grown-are few = record {
+    each_seen = grown-long seen objects more-seen ∙ sym (grown-long counts objects more);
+    within = (let most : known ≤ length counts = are.within in omega (arith, grown-long counts objects more));
+    few = omega (arith, grown-long counts objects more);
+    small = λ k. (let small : get_or counts k 0 ≤ 15 = are.small k in omega (arith, grown-cell counts (objects - length counts) k));
+    past = λ k. (let past : get_or seen k 0 ≤ halvings = are.past k in omega (arith, grown-cell seen (objects - length seen) k));
+    unknown = λ k high. grown-cell counts (objects - length counts) k ∙ are.unknown k high;
   }

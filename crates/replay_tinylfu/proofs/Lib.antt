@@ -7,3 +7,4 @@ pub mod CountLemmas
 pub mod WalkLemmas
 pub mod MoveLemmas
 pub mod TinyAnswers
+pub mod RoomLemmas

@@ -1,6 +1,7 @@
 -- What W-TinyLFU answers, by its segments.
-use Rattle.std.proofs.Common.{◌≡◌, ℕ, ◌+◌, ◌-◌, ◌^◌, ◌<◌, ◌≤◌, ◌∙◌, sym, refl, ap, subst, true, false, min, List, ◌++◌, length, take, drop, None, All, arith}
+use Rattle.std.proofs.Common.{◌≡◌, ℕ, ◌+◌, ◌-◌, ◌^◌, ◌<◌, ◌≤◌, ◌∙◌, sym, refl, ap, subst, true, false, min, List, ◌++◌, length, take, drop, None, All, Ok, Err, OnErr, arith}
 use Rattle.std.specs.declared.option.Option.{Option}
+use Rattle.std.specs.declared.result.Result.{Result}
 use Rattle.std.proofs.Math.Seq.{take-append_seam, drop-append_seam}
 use Rattle.policy_model.specs.declared.names.PolicyName.TheVariants.{WTinyLfu}
 use Rattle.policy_model.specs.States.{Entry, Stock, State, used, has_entry, members_of, IsFit}
@@ -87,8 +88,8 @@ module _ (objects capacity requests : ℕ) (f : Frequencies) (q : Segments) (k s
       shared_after =
           subst (λ (x : State). IsShared capacity x.entries x.beside) (sym answers.state_is) (shares-step state k size None shared_before)
 
-      pub tinylfu-after : (d : Counted) (t : Queues) → d.objects ≡ objects → t.objects ≡ objects → d.frequencies ≡ g → t.segments ≡ s → d.frequencies.asked ≤ 2 ^ 36 → IsTinyLfu objects capacity d t
-      tinylfu-after d t each_count each_object counts moved room =
+      pub tinylfu-after : (d : Counted) (t : Queues) → d.objects ≡ t.objects → t.objects ≤ objects → d.frequencies ≡ g → t.segments ≡ s → d.frequencies.asked ≤ 2 ^ 36 → IsTinyLfu objects capacity d t
+      tinylfu-after d t counted within counts moved room =
           let rest : List Entry = s.main.probation ++ s.main.protected in
           let of : List Entry → List Entry → ℕ = λ xs ys. used xs + used ys in
           let window_is : used (take (length s.window) (s.window ++ rest)) ≤ window_part capacity = shared_after.window in
@@ -99,8 +100,9 @@ module _ (objects capacity requests : ℕ) (f : Frequencies) (q : Segments) (k s
           ∙ ap (of s.main.probation) (drop-append_seam s.main.probation s.main.protected) in
           record {
             range = is.range;
-            each_count = each_count;
-            each_object = each_object;
+            few = is.few;
+            counted = counted;
+            within = within;
             room = room;
             fits = subst (λ u. IsFit capacity (segment_entries u)) (sym moved) fit-after;
             window = subst (λ (u : Segments). used u.window ≤ window_part capacity) (sym moved) (omega (arith, ap used (take-append_seam s.window rest)));
@@ -114,6 +116,11 @@ pub from_view : (old : Kept) (objects capacity requests n : ℕ) (f g : Frequenc
 from_view old objects capacity requests n f g q r k size outcome view now answers next =
     subst (λ (p : Kept). Answers WTinyLfu p (kept_of objects capacity n g r) k size next outcome) view
     (subst (λ (m : ℕ). Answers WTinyLfu (kept_of objects capacity requests f q) (kept_of objects capacity m g r) k size next outcome) (sym now) (answers next))
+
+-- what holds at all events holds after an error
+pub on-err : {T E : Type 0} (r : Result T E) (A : Type 0) → A → OnErr r A
+on-err (Ok x) A holds = tt
+on-err (Err e) A holds = holds
 
 -- ---- an object that is let go of
 entries-left : (k : ℕ) (q : Segments) → segment_entries (segments_without k q) ≡ without_entry k (segment_entries q)
@@ -130,8 +137,9 @@ module _ (k : ℕ) (r t : Queues) (is : t ≡ with_segments (segments_without k 
       subst (IsTinyLfu objects capacity c) (sym is)
       (record {
         range = b.range;
-        each_count = b.each_count;
-        each_object = b.each_object;
+        few = b.few;
+        counted = b.counted;
+        within = b.within;
         room = b.room;
         fits = subst (IsFit capacity) (sym (entries-left k q)) (fit-without capacity k (segment_entries q) b.fits);
         window = omega (arith, part-used (without_entry k q.window) q.window (without-part k q.window));

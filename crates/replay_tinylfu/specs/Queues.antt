@@ -1,9 +1,9 @@
 -- The three queues of W-TinyLFU as nodes keep them.
-use Rattle.std.specs.Prelude.{◌≡◌, ℕ, ◌+◌, ◌<◌, ◌++◌, List, [], length, map, None}
+use Rattle.std.specs.Prelude.{◌≡◌, ℕ, ◌+◌, ◌<◌, ◌++◌, true, false, List, [], length, map, None}
 use Rattle.policy_model.specs.declared.names.PolicyName.TheVariants.{WTinyLfu}
-use Rattle.policy_model.specs.States.{Entry}
+use Rattle.policy_model.specs.States.{Entry, has_entry}
 use Rattle.policy_model.specs.Steps.{fresh_entry}
-use Rattle.policy_model.specs.WTinyLfu.{Main, Segments, count_of}
+use Rattle.policy_model.specs.WTinyLfu.{Main, Segments, count_of, segment_entries}
 use Rattle.replay_queues.specs.declared.nodes.Node.{Node}
 use Rattle.replay_queues.specs.Rings.{node_at}
 use Rattle.replay_tinylfu.specs.Marks.{up_to, past}
@@ -74,3 +74,7 @@ with_probation entries q = with_main (record { probation = entries; protected = 
 
 abbrev pub with_protected : List Entry → Queues → Queues
 with_protected entries q = with_main (record { probation = q.segments.main.probation; protected = entries }) q
+
+-- no object is in both
+abbrev pub AreApart : Queues → Queues → Type 0
+AreApart q r = (k : ℕ) → has_entry (segment_entries q.segments) k ≡ true → has_entry (segment_entries r.segments) k ≡ false

@@ -11,11 +11,12 @@ abbrev pub kept_of : ℕ → ℕ → ℕ → Frequencies → Segments → Kept
 kept_of objects capacity requests f q =
     record { objects = objects; capacity = capacity; now = requests; entries = (stock_of_segments f q).entries; beside = (stock_of_segments f q).beside }
 
--- the entries fit, and so does each part
+-- there is room for no more than these objects, and the entries fit, and so does each part
 pub record IsTinyLfu (objects capacity : ℕ) (c : Counted) (r : Queues) : Type 0 where
   pub range : capacity ≤ 2 ^ 56
-  pub each_count : c.objects ≡ objects
-  pub each_object : r.objects ≡ objects
+  pub few : objects ≤ 2 ^ 31
+  pub counted : c.objects ≡ r.objects
+  pub within : r.objects ≤ objects
   pub room : c.frequencies.asked ≤ 2 ^ 36
   pub fits : IsFit capacity (segment_entries r.segments)
   pub window : used r.segments.window ≤ window_part capacity

@@ -1,5 +1,5 @@
 //! How often each object was asked for, halved at times.
-ghost use Rattle.std.specs.Prelude.{◌≡◌, ◌≤◌, ◌<◌, ◌^◌, ◌+◌, ◌/◌, [], length, map, min, ℕ, slice_index, IfOk};
+ghost use Rattle.std.specs.Prelude.{◌≡◌, ◌≤◌, ◌<◌, ◌^◌, ◌+◌, ◌-◌, ◌/◌, ◌++◌, [], length, map, min, replicate, ℕ, slice_index, IfOk, OnOk, OnErr};
 ghost use Rattle.policy_model.specs.WTinyLfu.{one_more, with_request};
 ghost use Rattle.replay_tinylfu.specs.Counts.{no_counts, halve, with_frequencies, count_at, AreSettled};
 
@@ -64,6 +64,28 @@ fn settle(counts: &mut Vec<u8>, seen: &mut Vec<u32>, halvings: u32)
     }
 }
 
+// The same counts, and zeros up to this length.
+fn longer_counts(alloc: Global, counts: &Vec<u8>, objects: u32) -> Result<Vec<u8>, NoMemory>
+    requires { length counts.now.items ≤ objects }
+    ensures { IfOk result (λ longer. longer.items ≡ counts.now.items ++ replicate (objects - length counts.now.items) 0) }
+{
+    let mut longer = Vec::with_capacity(alloc, objects as usize)?;
+    longer.extend_from_slice(counts)?;
+    longer.resize(objects as usize, 0)?;
+    Ok(longer)
+}
+
+// The same halvings, and zeros up to this length.
+fn longer_seen(alloc: Global, seen: &Vec<u32>, objects: u32) -> Result<Vec<u32>, NoMemory>
+    requires { length seen.now.items ≤ objects }
+    ensures { IfOk result (λ longer. longer.items ≡ seen.now.items ++ replicate (objects - length seen.now.items) 0) }
+{
+    let mut longer = Vec::with_capacity(alloc, objects as usize)?;
+    longer.extend_from_slice(seen)?;
+    longer.resize(objects as usize, 0)?;
+    Ok(longer)
+}
+
 impl Counts {
     /// No requests, for objects numbered below this. It takes 5 bytes for each.
     pub(crate) fn new(alloc: Global, objects: u32) -> Result<Self, NoMemory>
@@ -77,6 +99,20 @@ impl Counts {
             halvings: 0,
             asked: 0,
         })
+    }
+
+    /// Makes room for objects numbered below this.
+    pub(crate) fn grow(&mut self, alloc: Global, objects: u32) -> Result<(), NoMemory>
+        requires more { self.old.objects ≤ objects }
+        requires few { objects ≤ 2 ^ 31 }
+        ensures grown { OnOk result (self.new ≡ record self.old { objects = objects }) }
+        ensures stays { OnErr result (self.new ≡ self.old) }
+    {
+        let counts = longer_counts(alloc, &self.counts, objects)?;
+        let seen = longer_seen(alloc, &self.seen, objects)?;
+        self.counts = counts;
+        self.seen = seen;
+        Ok(())
     }
 
     /// The count of an object.

@@ -6,6 +6,7 @@
 mod counts;
 mod moves;
 mod ring;
+mod room;
 mod wtinylfu;
 
 pub use wtinylfu::WTinyLfu;

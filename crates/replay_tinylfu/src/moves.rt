@@ -33,7 +33,6 @@ fn protect(ring: &mut Ring, most: u64, object: u32)
 
 /// A hit of an object, where protected objects may have this many bytes.
 pub(crate) fn hit(ring: &mut Ring, most: u64, object: u32)
-    requires known { object < ring.old.objects }
     requires there { has_entry (segment_entries ring.old.segments) object ≡ true }
     requires range { (used ring.old.segments.window ≤ 2 ^ 56) × (main_used ring.old.segments.main ≤ 2 ^ 56) }
     ensures { ring.new ≡ with_segments (hit_in most object ring.old.segments) ring.old }
@@ -123,7 +122,6 @@ pub(crate) fn miss(ring: &mut Ring, counts: &Counts, window: u64, most: u64, obj
 
 /// Lets go of an object, if it is in one of the queues.
 pub(crate) fn leave(ring: &mut Ring, object: u32)
-    requires known { object < ring.old.objects }
     ensures { ring.new ≡ with_segments (segments_without object ring.old.segments) ring.old }
 {
     let place = ring.place(object);

@@ -1,5 +1,5 @@
 //! The three queues, in one ring.
-ghost use Rattle.std.specs.Prelude.{◌≡◌, ◌≤◌, ◌<◌, ◌+◌, ◌^◌, ◌++◌, ◌∷◌, ◌==◌, [], true, false, length, drop, nat_lt, IfOk, MatchOption};
+ghost use Rattle.std.specs.Prelude.{◌≡◌, ◌≤◌, ◌<◌, ◌+◌, ◌^◌, ◌++◌, ◌∷◌, ◌==◌, [], true, false, length, drop, nat_lt, slice_index, IfOk, MatchOption};
 ghost use Rattle.policy_model.specs.States.{used, has_entry};
 ghost use Rattle.policy_model.specs.Steps.{without_entry};
 ghost use Rattle.policy_model.specs.WTinyLfu.{main_used, entry_of, segment_entries, first_with, count_of};
@@ -105,6 +105,14 @@ fn next_but(nodes: &Vec<Node>, node: u32, mark: u32) -> u32
     }
 }
 
+// The byte of an object, which is in none of the queues if it has none.
+#[inline(always)]
+fn place_at(places: &Vec<u8>, object: u32) -> u8
+    ensures { result ≡ slice_index places.now.items object }
+{
+    places.get(object as usize).copied().unwrap_or(NOWHERE)
+}
+
 impl Ring {
     /// Empty, for objects numbered below this. It takes 17 bytes for each.
     pub(crate) fn new(alloc: Global, objects: u32) -> Result<Self, NoMemory>
@@ -137,24 +145,29 @@ impl Ring {
     /// Where an object stands.
     #[inline(always)]
     pub(crate) fn place(&self, object: u32) -> u8
-        requires { object < self.now.objects }
         ensures window { (result == WINDOW) ≡ has_entry self.now.segments.window object }
         ensures probation { (result == PROBATION) ≡ has_entry self.now.segments.main.probation object }
         ensures protected { (result == PROTECTED) ≡ has_entry self.now.segments.main.protected object }
+        ensures known { 0 < result → object < self.now.objects }
     {
-        self.places[object as usize]
+        place_at(&self.places, object)
     }
 
     /// Whether an object stands in one of the queues.
     #[inline(always)]
     pub(crate) fn holds(&self, object: u32) -> bool
-        ensures { result ≡ has_entry (segment_entries self.now.segments) object }
+        ensures there { result ≡ has_entry (segment_entries self.now.segments) object }
+        ensures known { result ≡ true → object < self.now.objects }
     {
-        if object >= self.objects {
-            return false;
-        }
         let place = self.place(object);
         place == WINDOW || place == PROBATION || place == PROTECTED
+    }
+
+    /// The number of objects that there is room for.
+    pub(crate) fn objects(&self) -> u32
+        ensures { result ≡ self.now.objects }
+    {
+        self.objects
     }
 
     /// How many entries there are.
@@ -185,6 +198,13 @@ impl Ring {
         ensures { result ≡ used self.now.segments.main.protected }
     {
         self.protected.bytes
+    }
+
+    /// Whether an object is in the window.
+    pub(crate) fn has_window(&self) -> bool
+        ensures { result ≡ nat_lt 0 (length self.now.segments.window) }
+    {
+        self.window.entries > 0
     }
 
     /// Whether an object is on probation.

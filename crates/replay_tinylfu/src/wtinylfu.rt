@@ -11,6 +11,7 @@ ghost use Rattle.replay_core.specs.Outcomes.{is_hit};
 use crate::counts::Counts;
 use crate::moves::{hit, leave, miss};
 use crate::ring::Ring;
+use crate::room::reach;
 use bound_base::NoMemory;
 use replay_core::{LetGo, Outcome, Policy};
 use std::alloc::Global;
@@ -24,7 +25,8 @@ use std::marker::Model;
 /// more than eight tenths of the main part. Counts are at most 15, and are halved at times.
 ///
 /// A request takes constant time on average, but for the objects whose counts a candidate is compared with. It takes 22
-/// bytes for each object from the start.
+/// bytes for each object that came in, and up to a quarter more, if objects are numbered in the order in which they come. As
+/// it makes room for more, it takes both for a moment.
 #[derive(Drop)]
 pub struct WTinyLfu {
     capacity: u64,
@@ -69,46 +71,54 @@ fn protected_room(capacity: u64) -> u64
 }
 
 impl WTinyLfu {
-    /// A policy that holds nothing, with its capacity in bytes. It takes 22 bytes for each object.
+    /// A policy that holds nothing, with its capacity in bytes, for objects numbered below `objects`.
     pub fn new(alloc: Global, capacity: u64, objects: u32) -> Result<Self, NoMemory>
         requires range { (1 ≤ capacity) × (capacity ≤ 2 ^ 56) }
         requires few { objects ≤ 2 ^ 31 }
         ensures nothing { IfOk result (λ policy. policy ≡ nothing_kept objects capacity) }
     {
-        let counts = Counts::new(alloc, objects)?;
+        let counts = Counts::new(alloc, 0)?;
         Ok(WTinyLfu {
             capacity,
             objects,
             requests: 0,
             counts,
-            ring: Ring::new(alloc, objects)?,
+            ring: Ring::new(alloc, 0)?,
         })
     }
 
     // One request, as the rule says, whatever the next request is.
-    fn ask(&mut self, object: u32, size: u64) -> Outcome
+    fn ask(&mut self, alloc: Global, object: u32, size: u64) -> Result<Outcome, NoMemory>
         requires known { object < self.old.objects }
         requires kept_size { All (λ m. m.object ≡ object → m.size ≡ size) (contents_of self.old) }
-        ensures answers { (next : Option ℕ) → Answers ByCount self.old self.new object size next result }
+        ensures answers { IfOk result (λ outcome. (next : Option ℕ) → Answers ByCount self.old self.new object size next outcome) }
         ensures fits { IsSound self.new.capacity (contents_of self.new) }
+        ensures kept { OnErr result (self.new ≡ self.old) }
     {
         let requests = self.requests.saturating_add(1);
         if self.ring.holds(object) {
             self.counts.note(object, self.ring.len());
             hit(&mut self.ring, protected_room(self.capacity), object);
             self.requests = requests;
-            return Outcome::Hit;
+            return Ok(Outcome::Hit);
         }
         if size > self.capacity {
             self.requests = requests;
-            return Outcome::Miss;
+            return Ok(Outcome::Miss);
         }
+        reach(
+            &mut self.counts,
+            &mut self.ring,
+            alloc,
+            object,
+            self.objects,
+        )?;
         self.counts.note(object, self.ring.len());
         let window = window_room(self.capacity);
         let main = main_room(self.capacity);
         miss(&mut self.ring, &self.counts, window, main, object, size);
         self.requests = requests;
-        Outcome::Miss
+        Ok(Outcome::Miss)
     }
 }
 
@@ -133,7 +143,7 @@ impl Policy for WTinyLfu {
 
     fn request(
         &mut self,
-        _alloc: Global,
+        alloc: Global,
         object: u32,
         size: u64,
         _next: Option<u32>,
@@ -151,7 +161,7 @@ impl Policy for WTinyLfu {
         ensures step { OnOk result (StepsBy (Some (state_of ByCount self.old)) (Some (state_of ByCount self.new)) object size _next) }
         ensures kept { OnErr result (self.new ≡ self.old) }
     {
-        Ok(self.ask(object, size))
+        self.ask(alloc, object, size)
     }
 
     ghost state_fits = { λ p. (refl, refl) };

@@ -3,10 +3,11 @@ use Rattle.policy_model.specs.States.{has_entry}
 use Rattle.policy_model.proofs.S3FifoSound.{queue_entries}
 use Rattle.replay_core.specs.declared.policy.Outcome.TheVariants.{Hit, Miss}
 use Rattle.replay_core.proofs.Kept.{fit-sound}
-use Rattle.replay_queues.specs.SmallAndMain.{is_kept, queues_at, IsS3Fifo}
+use Rattle.replay_queues.specs.SmallAndMain.{is_kept, queues_at, with_space, IsS3Fifo}
 use Rattle.replay_queues.specs.declared.three_queues.ThreeQueues.{ThreeQueues}
 use Rattle.replay_queues.proofs.S3FifoAnswers.{kept-entry, hit-answers, large-answers, miss-answers, s3fifo-fit, hit-small, hit-main, hit-s3fifo, still_absent, from_view, entered-s3fifo}
 use Rattle.replay_queues.specs.Items.{items_of}
+use Rattle.replay_queues.proofs.RoomAnswers.{reached-s3fifo, reached-out}
 use Rattle.replay_queues.proofs.s3fifo.S3Fifo.ask.Goals as goal
 
 -- whether an object has an entry
@@ -46,16 +47,23 @@ returns-then-size-self-clause-fits c =
     let p = c.self.inside in
     fit-sound p.capacity (queue_entries (queues_at p.queues)) (s3fifo-fit p.objects p.capacity p.used p.queues c.self.invariant)
 
+pub returns-in_err-reach-clause-fits : goal.returns-in_err-reach-clause-fits
+returns-in_err-reach-clause-fits c =
+    let p = c.self.inside in
+    fit-sound p.capacity (queue_entries (queues_at c.reach.new.self)) (s3fifo-fit p.objects p.capacity p.used c.reach.new.self
+    (reached-s3fifo p.objects p.capacity p.used p.queues c.reach.new.self c.self.invariant c.reach.ensures.queues c.reach.ensures.within c.reach.ensures.queued))
+
 pub enter-requires-clause-absent : goal.enter-requires-clause-absent
 enter-requires-clause-absent c =
     let p = c.self.inside in
-    still_absent p.queues c.make_room-self-inside.new.self p.capacity c.args.size c.self.invariant.queued c.make_room-self-inside.ensures.queued (c.make_room-self-inside.ensures.queues)
-    c.args.object (sym c.holds.ensures ∙ c.if-holds.false)
+    still_absent c.reach.new.self c.make_room-self-inside.new.self p.capacity c.args.size c.reach.ensures.queued c.make_room-self-inside.ensures.queued c.make_room-self-inside.ensures.queues
+    c.args.object (reached-out p.queues c.reach.new.self c.self.invariant.queued c.reach.ensures.queued c.reach.ensures.queues c.args.object (sym c.holds.ensures ∙ c.if-holds.false))
 
 pub invariant_of-self-2 : goal.invariant_of-self-2
 invariant_of-self-2 c =
     let p = c.self.inside in
-    entered-s3fifo p.objects p.capacity p.used c.make_room-self-inside.result c.args.size p.queues c.make_room-self-inside.new.self c.enter.new.self c.self.invariant
+    entered-s3fifo p.objects p.capacity p.used c.make_room-self-inside.result c.args.size c.reach.new.self c.make_room-self-inside.new.self c.enter.new.self
+    (reached-s3fifo p.objects p.capacity p.used p.queues c.reach.new.self c.self.invariant c.reach.ensures.queues c.reach.ensures.within c.reach.ensures.queued)
     (c.enter.ensures.table ∙ c.make_room-self-inside.ensures.table) c.enter.ensures.queued c.args.object c.enter.ensures.queues c.make_room-self-inside.ensures.in_use c.make_room-self-inside.ensures.fits
 
 pub returns-clause-answers : goal.returns-clause-answers
@@ -64,7 +72,7 @@ returns-clause-answers c =
     let none : is_kept (get_or p.queues.table c.args.object 0) ≡ false = sym c.holds.ensures ∙ c.if-holds.false in
     from_view c.args.self.now p.objects p.capacity p.requests c.saturating_add-requests.result (queues_at p.queues) (queues_at c.enter.new.self) c.args.object c.args.size Miss c.self.view_is c.saturating_add-requests.ensures
     (miss-answers p.objects p.capacity p.requests (queues_at p.queues) c.args.object c.args.size (answer_is p.objects p.capacity p.used p.queues c.self.invariant c.args.object false none) c.if-size-self.false
-    (queues_at c.enter.new.self) (queues_at c.make_room-self-inside.new.self) (c.make_room-self-inside.ensures.queues) c.enter.ensures.queues)
+    (queues_at c.enter.new.self) (queues_at c.make_room-self-inside.new.self) (c.make_room-self-inside.ensures.queues ∙ ap (with_space p.capacity c.args.size) c.reach.ensures.queues) c.enter.ensures.queues)
 
 pub returns-clause-fits : goal.returns-clause-fits
 returns-clause-fits c =

@@ -1,21 +1,11 @@
-use Rattle.std.proofs.Common.{◌≡◌, ap, sym, ◌∙◌, length, get_or, arith}
-use Rattle.std.proofs.lemmas.Bool.{le-ltb}
-use Rattle.std.proofs.lemmas.List.{get_or_past}
+use Rattle.std.proofs.Common.{ap, ◌∙◌}
 use Rattle.policy_model.specs.States.{has_member}
 use Rattle.replay_core.specs.Keeping.{Kept, contents_of}
-use Rattle.replay_queues.specs.SieveQueues.{is_held, behind_items, ahead_items}
+use Rattle.replay_queues.specs.SieveQueues.{behind_items, ahead_items}
 use Rattle.replay_queues.proofs.SieveAnswers.{held-member}
 use Rattle.replay_queues.proofs.sieve.SievePolicy.holds.Goals as goal
 
-pub returns-then-object-self : goal.returns-then-object-self
-returns-then-object-self c =
+pub returns : goal.returns
+returns c =
     let h = c.self.inside.hand in
     c.holds.ensures ∙ held-member h.table (behind_items h) (ahead_items h) c.self.invariant.held.are c.args.object ∙ ap (λ (p : Kept). has_member (contents_of p) c.args.object) c.self.view_is
-
-pub returns-else-object-self : goal.returns-else-object-self
-returns-else-object-self c =
-    let h = c.self.inside.hand in
-    let each : length h.table ≡ c.self.inside.objects = c.self.invariant.each_object in
-    let past : get_or h.table c.args.object 0 ≡ 0 = get_or_past h.table c.args.object 0 (omega arith) in
-    le-ltb c.args.object c.self.inside.objects c.if-object-self.false ∙ sym (ap is_held past)
-    ∙ held-member h.table (behind_items h) (ahead_items h) c.self.invariant.held.are c.args.object ∙ ap (λ (p : Kept). has_member (contents_of p) c.args.object) c.self.view_is

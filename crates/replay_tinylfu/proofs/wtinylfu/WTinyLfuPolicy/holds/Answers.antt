@@ -6,4 +6,4 @@ use Rattle.replay_core.specs.Keeping.{Kept, contents_of}
 use Rattle.replay_tinylfu.proofs.wtinylfu.WTinyLfuPolicy.holds.Goals as goal
 
 pub returns : goal.returns
-returns c = c.holds.ensures ∙ has_entry-members (segment_entries c.self.inside.ring.segments) c.args.object ∙ ap (λ (p : Kept). has_member (contents_of p) c.args.object) c.self.view_is
+returns c = c.holds.ensures.there ∙ has_entry-members (segment_entries c.self.inside.ring.segments) c.args.object ∙ ap (λ (p : Kept). has_member (contents_of p) c.args.object) c.self.view_is
