@@ -20,8 +20,8 @@ pub const EXAMPLES: &str =
     "A path - is the standard input or output. The report goes to the standard output.
 HITS has a line for each request: 1 if a simulator of your own counted a hit, and 0 if not.
 A curve takes an objective, a denominator and a warm-up with capacities alone.
-A sweep has bounds at many capacities, in one pass over a trace of up to 4294967295 requests. With a delay they are
-bounds of caches, too, that let an object in up to that many requests after it was asked for.
+A sweep has bounds at many capacities, in one pass over a trace of up to 4294967295 requests, and what the policies count
+there that are named. With a delay the bounds are of caches, too, that let an object in up to that many requests later.
 
 A demo draws a trace of its own and shows its bounds, that they are checked, and the hits of five policies.
 

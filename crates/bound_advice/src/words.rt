@@ -39,13 +39,24 @@ fn commands_listed(alloc: Global, before_last: &str) -> Result<String, AllocErro
     listed(alloc, &names, before_last)
 }
 
-// The policies.
+// The words of the policies.
 fn policies_listed(alloc: Global) -> Result<String, AllocError> {
     let mut names = Vec::new(alloc);
     for policy in PolicyName::ALL {
         names.push(policy.word())?;
     }
     listed(alloc, &names, " or ")
+}
+
+// Those that don't look ahead.
+fn pass_policies_listed(alloc: Global) -> Result<String, AllocError> {
+    let mut names = Vec::new(alloc);
+    for policy in PolicyName::ALL {
+        if policy != PolicyName::Belady {
+            names.push(policy.word())?;
+        }
+    }
+    listed(alloc, &names, ", ")
 }
 
 /// The words of a command line, and the command that they ask for, if they begin with one.
@@ -170,6 +181,11 @@ fn values_said(alloc: Global, kind: Kind) -> Result<String, AllocError> {
             format!(in alloc; "{words}, or digits alone, from 1 to {most}")
         }
         Values::Policy => policies_listed(alloc),
+        Values::Policies => {
+            let words = pass_policies_listed(alloc)?;
+            let words = words.as_str();
+            format!(in alloc; "words with commas between, each once, of {words}")
+        }
         Values::Capacities => format!(in alloc;
             "1 to {MOST_CAPACITIES} numbers from 1 to {MOST_CAPACITY} with commas between, each more than the one before"
         ),

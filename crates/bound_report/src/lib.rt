@@ -28,6 +28,7 @@ pub use hit_judge::Impossible;
 pub use judged::JudgedFacts;
 pub use numbers::{Numbers, numbers_in};
 pub use policy_model::PolicyName;
+pub use policy_sweep::PolicyReplay;
 pub use refinement::RefinementFacts;
 pub use refusal::{LimitName, Refusal, RefusalText, refusal_text};
 pub use rendering::{Counting, Report, StaleCounts, render};

@@ -1,8 +1,8 @@
 //! The report of a sweep.
-ghost use Rattle.std.specs.Prelude.{◌≡◌, ◌<◌, ◌++◌, ◌∷◌, [], All, map, flat_map, OnOk};
+ghost use Rattle.std.specs.Prelude.{◌≡◌, ◌<◌, ◌++◌, ◌∷◌, [], All, flat_map, OnOk};
 ghost use Rattle.cache_model.specs.Texts.{line, text_of};
 ghost use Rattle.trace_sweep.specs.Points.{HasEdges};
-ghost use Rattle.bound_report.specs.Sweeps.{bound_line, bound_lines, delay_lines, sweep_line};
+ghost use Rattle.bound_report.specs.Sweeps.{bound_line, bound_lines, capacity_lines, counts_line, counts_lines, delay_lines, sweep_line};
 
 use crate::rendering::Report;
 use crate::report::{Line, append, append_trace, entry_line, word_of_objective};
@@ -10,6 +10,7 @@ use area_sums::EdgeBound;
 use bound_base::NoMemory;
 use cache_model::Objective;
 use line_text::LineText;
+use policy_sweep::PolicyReplay;
 use trace_sweep::SweepPoint;
 
 /// What a sweep is of: the counts of the trace, how many capacities and policies there are, and by how many requests an
@@ -20,18 +21,19 @@ pub struct SweepFacts {
     pub objects: u32,
     pub dropped: u64,
     pub capacities: u64,
-    pub policies: u32,
+    pub policies: u64,
     pub delay: u32,
 }
 
-/// What a sweep states: what it is of, and the bounds at each capacity.
+/// What a sweep states: what it is of, the bounds at each capacity, and what each policy counts at one of them.
 #[derive(Drop)]
 pub struct SweepReport<'a> {
     pub facts: SweepFacts,
     pub points: &'a [SweepPoint],
+    pub replays: &'a [PolicyReplay],
 }
 
-fn sweep_line(capacities: u64, policies: u32) -> Line
+fn sweep_line(capacities: u64, policies: u64) -> Line
     ensures { result ≡ line (sweep_line capacities policies) }
 {
     let mut text = LineText::new();
@@ -55,6 +57,19 @@ fn bound_line(capacity: u64, objective: Objective, bound: EdgeBound) -> Line
     text
 }
 
+fn counts_line(replay: &PolicyReplay) -> Line
+    ensures { result ≡ line (counts_line replay.now) }
+{
+    let mut text = LineText::new();
+    text.push_entry(b"capacity", replay.capacity);
+    text.push(b" policy ");
+    text.push(replay.policy.word().as_bytes());
+    text.push_entry(b" hits", replay.counts.hits);
+    text.push_entry(b" bytes", replay.counts.bytes);
+    text.push_entry_line(b" writes", replay.counts.written);
+    text
+}
+
 // Appends the delay, if there is one.
 fn append_delay(text: &mut Vec<u8>, delay: u32) -> Result<(), NoMemory>
     ensures { OnOk result (text.new.items ≡ text.old.items ++ text_of (delay_lines delay)) }
@@ -75,13 +90,55 @@ fn append_point(text: &mut Vec<u8>, point: &SweepPoint) -> Result<(), NoMemory>
     append(text, &bound_line(capacity, Objective::Bytes, bounds.bytes))
 }
 
+// Appends a line of what a policy counts, if that is at this capacity.
+fn append_counts(text: &mut Vec<u8>, capacity: u64, replay: &PolicyReplay) -> Result<(), NoMemory>
+    ensures { OnOk result (text.new.items ≡ text.old.items ++ text_of (counts_lines capacity replay.now)) }
+{
+    if replay.capacity == capacity {
+        append(text, &counts_line(replay))
+    } else {
+        Ok(())
+    }
+}
+
+// Appends those of each policy.
+fn append_replays(
+    text: &mut Vec<u8>,
+    capacity: u64,
+    replays: &[PolicyReplay],
+) -> Result<(), NoMemory>
+    ensures { OnOk result (text.new.items ≡ text.old.items ++ text_of (flat_map (counts_lines capacity) replays.now)) }
+{
+    for replay in replays {
+        append_counts(text, capacity, replay)?;
+    }
+    Ok(())
+}
+
+// Appends the lines of a capacity.
+fn append_capacity(
+    text: &mut Vec<u8>,
+    point: &SweepPoint,
+    replays: &[PolicyReplay],
+) -> Result<(), NoMemory>
+    requires { HasEdges point.now }
+    ensures { OnOk result (text.new.items ≡ text.old.items ++ text_of (capacity_lines replays.now point.now)) }
+{
+    append_point(text, point)?;
+    append_replays(text, point.capacity, replays)
+}
+
 // Appends those of each capacity.
-fn append_points(text: &mut Vec<u8>, points: &[SweepPoint]) -> Result<(), NoMemory>
+fn append_points(
+    text: &mut Vec<u8>,
+    points: &[SweepPoint],
+    replays: &[PolicyReplay],
+) -> Result<(), NoMemory>
     requires { All HasEdges points.now }
-    ensures { OnOk result (text.new.items ≡ text.old.items ++ text_of (flat_map bound_lines points.now)) }
+    ensures { OnOk result (text.new.items ≡ text.old.items ++ text_of (flat_map (capacity_lines replays.now) points.now)) }
 {
     for point in points {
-        append_point(text, point)?;
+        append_capacity(text, point, replays)?;
     }
     Ok(())
 }
@@ -91,7 +148,7 @@ impl<'a> Report for SweepReport<'a> {
     ghost use Rattle.trace_sweep.specs.Points.{HasEdges};
     ghost use Rattle.bound_report.specs.Sweeps.{sweep_lines};
 
-    ghost lines = { λ r. sweep_lines r.facts r.points.now };
+    ghost lines = { λ r. sweep_lines r.facts r.points.now r.replays.now };
 
     ghost is_sound = { λ r. All HasEdges r.points.now };
 
@@ -107,6 +164,6 @@ impl<'a> Report for SweepReport<'a> {
     }
 
     fn append_back(&self, text: &mut Vec<u8>) -> Result<(), NoMemory> {
-        append_points(text, self.points)
+        append_points(text, self.points, self.replays)
     }
 }

@@ -37,7 +37,8 @@ use Rattle.bound_run.specs.declared.status.Status.TheVariants.{Done, Invalid, Wo
 use Rattle.bound_run.specs.Demos.{trace_drawn}
 use Rattle.trace_any.specs.Loads.{pass_limits}
 use Rattle.bound_words.specs.declared.plans.SweepSettings.{SweepSettings}
-use Rattle.bound_run.specs.Sweeps.{IsGoodPass}
+use Rattle.policy_model.specs.declared.names.PolicyName.{PolicyName}
+use Rattle.bound_run.specs.Sweeps.{IsGoodPass, names_of}
 use Rattle.bound_run.specs.BoundsMade.{RefusesDenominator}
 use Rattle.bound_run.specs.Readings.{HasDenominator, IsCapacityCurved, IsGoodTrace, IsReplayed, trace_in}
 use Rattle.bound_run.specs.Run.{AnswersCurve, AnswersCurveOf, AnswersOf, Answers, AreGoodInputs, BoundsEnd, CheckEnds, CurveEnds, Completes, DemoEnds, Devices, NoneFails, RefineEnds, ReportsEnd, RunEnds, CommandEnds, UpgradeEnds, SweepEnds}
@@ -245,13 +246,13 @@ module _ (format : Format) (IsText : List ℕ → Type 0) (source report : Devic
 
 -- sweeps
 
-module _ (format : Format) (asked : SweepSettings) (capacities : List ℕ) (source report : Device) (good : IsGoodPass format source.before)
+module _ (format : Format) (asked : SweepSettings) (capacities : List ℕ) (policies : List PolicyName) (source report : Device) (good : IsGoodPass format source.before)
     (source_works : ¬ (HasFailed source)) (report_works : ¬ (HasFailed report)) where
   pass_works : (before : Option (List ℕ)) (fault : FaultOfTrace) → IsGoodPass format before → IfSome before (λ bytes. (reading format pass_limits bytes).refused ≡ Some fault) → ⊥
   pass_works None fault known_trace why = known_trace
   pass_works (Some bytes) fault known_trace why = some_is_not_none fault _ why known_trace
 
-  sweep_complete : (status : Status) → SweepEnds format asked capacities source report (ending_of status) → (status ≡ Done) ⊎ (status ≡ NoMemory)
+  sweep_complete : (status : Status) → SweepEnds format asked capacities policies source report (ending_of status) → (status ≡ Done) ⊎ (status ≡ NoMemory)
   sweep_complete Done e = inl refl
   sweep_complete NoMemory e = inr refl
   sweep_complete (BadLine line kind) e = absurd (pass_works source.before (trace.BadLine line kind) good e.0.0)
@@ -364,8 +365,8 @@ module _ (d : Devices) (status : Status) (works : NoneFails d) where
   command_complete (Curve format) e inputs = curve_complete format d.trace d.report inputs works.trace works.report status e.0
   command_complete (CapacityCurve format capacities asked) e inputs =
       report_complete format (IsCapacityCurved format asked (capacities_in capacities) d.trace) d.trace d.report inputs works.trace works.report status e.0
-  command_complete (Sweep format capacities asked) e inputs =
-      sweep_complete format asked (capacities_in capacities) d.trace d.report inputs works.trace works.report status e.0
+  command_complete (Sweep format capacities policies asked) e inputs =
+      sweep_complete format asked (capacities_in capacities) (names_of policies) d.trace d.report inputs works.trace works.report status e.0
   command_complete (Judge format asked) e inputs = judge_complete format asked d.trace d.beside d.report inputs.0 inputs.1 works.trace works.beside works.report status e.0
   command_complete Upgrade e inputs = upgrade_complete d.beside d.report d.made inputs works.beside works.report works.made status e.0
   command_complete (Check format) e inputs = check_complete format d.trace d.beside d.report inputs.0 inputs.1 works.trace works.beside works.report status e.0

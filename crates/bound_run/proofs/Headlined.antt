@@ -110,7 +110,7 @@ shown (CapacityCurve format capacities asked) d ((text, curved, printed), source
   curved.loaded,
   record { text = text; printed = printed; curve = curved.report },
 )
-shown (Sweep format capacities asked) d ((text, swept, printed), source, cert, made) = record { text = text; printed = printed; sweep = swept }
+shown (Sweep format capacities policies asked) d ((text, swept, printed), source, cert, made) = record { text = text; printed = printed; sweep = swept }
 shown (Judge format asked) d ((text, judged, printed), trace, hits, made) = (
   judged.requests,
   judged.notes,

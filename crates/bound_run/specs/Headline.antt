@@ -46,7 +46,8 @@ use Rattle.bound_run.specs.BoundsMade.{is_unwindowed}
 use Rattle.bound_run.specs.Refined.{IsRefinement, verdict_on}
 use Rattle.bound_run.specs.Replays.{IsReplayText, IsWithinBounds}
 use Rattle.bound_run.specs.Reports.{bounds_report, refined_report, verdict_report}
-use Rattle.bound_run.specs.Sweeps.{IsSweepText}
+use Rattle.policy_model.specs.declared.names.PolicyName.{PolicyName}
+use Rattle.bound_run.specs.Sweeps.{IsSweepText, names_of}
 use Rattle.bound_run.specs.Upgrades.{IsUpgraded}
 use Rattle.bound_run.specs.Run.{Devices}
 use Rattle.bound_words.specs.declared.plans.Settings.{Settings}
@@ -119,11 +120,11 @@ pub record ShowsCapacityCurve (format : Format) (asked : CurveTerms) (capacities
   pub printed : Appends report.before report.after text
   pub curve : IsCapacityCurveText format asked capacities trace notes text
 
--- a sweep printed bounds at the capacities, of hits and of their bytes, which no contents pass that let objects in no later than the delay
-pub record ShowsSweep (format : Format) (asked : SweepSettings) (capacities : List ℕ) (source report : Device) : Type 0 where
+-- a sweep printed bounds at the capacities, of hits and of their bytes, which no contents pass that let objects in no later than the delay, and what these policies count there, which is within them
+pub record ShowsSweep (format : Format) (asked : SweepSettings) (capacities : List ℕ) (policies : List PolicyName) (source report : Device) : Type 0 where
   pub text : List ℕ
   pub printed : Appends report.before report.after text
-  pub sweep : IsSweepText format asked capacities source text
+  pub sweep : IsSweepText format asked capacities policies source text
 
 -- no allowed contents that hit at the flags, and at no other request that counts, write fewer bytes than is said of them; and some that hit exactly there write just these
 pub record HasLeastWrites (asked : JudgeSettings) (trace : Requests) (flags : List Bool) : Type 0 where
@@ -183,7 +184,7 @@ ShowsElse (Replay format r) d = (trace : Requests) × (notes : Notes) × IsLoade
 ShowsElse (Curve format) d = (trace : Requests) × (notes : Notes) × IsLoaded format d.trace trace notes × ShowsCurve format trace notes d.report
 ShowsElse (CapacityCurve format capacities asked) d =
     (trace : Requests) × (notes : Notes) × IsLoaded format d.trace trace notes × ShowsCapacityCurve format asked (capacities_in capacities) trace notes d.report
-ShowsElse (Sweep format capacities asked) d = ShowsSweep format asked (capacities_in capacities) d.trace d.report
+ShowsElse (Sweep format capacities policies asked) d = ShowsSweep format asked (capacities_in capacities) (names_of policies) d.trace d.report
 ShowsElse (Judge format asked) d = (trace : Requests) × (notes : Notes) × IsLoaded format d.trace trace notes × ShowsJudgement format asked trace notes d.beside d.report
 ShowsElse (Demo drawing asked) d = ShowsDemo drawing asked d.report
 ShowsElse Upgrade d = ShowsUpgrade d.beside d.report d.made

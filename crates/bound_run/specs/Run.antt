@@ -28,7 +28,8 @@ use Rattle.bound_run.specs.BoundsMade.{RefusesDenominator}
 use Rattle.bound_run.specs.Judgements.{ArePossible, IsJudged}
 use Rattle.bound_run.specs.Readings.{HasDenominator, IsCertified, IsGoodTrace, IsReady, IsReplayed, IsCurved, IsCapacityCurved, IsVerdictText}
 use Rattle.bound_run.specs.Refined.{IsRefined}
-use Rattle.bound_run.specs.Sweeps.{IsGoodPass, IsSweepText, RefusesSweep}
+use Rattle.policy_model.specs.declared.names.PolicyName.{PolicyName}
+use Rattle.bound_run.specs.Sweeps.{IsGoodPass, IsSweepText, RefusesSweep, names_of}
 use Rattle.bound_run.specs.Upgrades.{IsGoodCertificate, IsUpgraded}
 use Rattle.bound_run.specs.Statuses.{Ending, done, refused, unreported, ending_of}
 use Rattle.bound_words.specs.declared.plans.Settings.{Settings}
@@ -92,8 +93,8 @@ CapacityCurveEnds format asked capacities source report ending =
     ReportsEnd (IsCapacityCurved format asked capacities source) (RefusesLoading format source) report ending
 
 -- how a sweep ends, and what the report got then
-abbrev pub SweepEnds : Format → SweepSettings → List ℕ → Device → Device → Ending → Type 0
-SweepEnds format asked capacities source report ending = ReportsEnd (IsSweepText format asked capacities source) (RefusesSweep format source) report ending
+abbrev pub SweepEnds : Format → SweepSettings → List ℕ → List PolicyName → Device → Device → Ending → Type 0
+SweepEnds format asked capacities policies source report ending = ReportsEnd (IsSweepText format asked capacities policies source) (RefusesSweep format source) report ending
 
 -- how a judgement ends, and what the report got then
 abbrev pub JudgeEnds : Format → JudgeSettings → Device → Device → Device → Ending → Type 0
@@ -115,8 +116,8 @@ CommandEnds (Replay format r) d ending = ReplayEnds format r d.trace d.report en
 CommandEnds (Curve format) d ending = CurveEnds format d.trace d.report ending × IsReadFrom d.trace × IsUntouched d.beside × IsUntouched d.made
 CommandEnds (CapacityCurve format capacities asked) d ending =
     CapacityCurveEnds format asked (capacities_in capacities) d.trace d.report ending × IsReadFrom d.trace × IsUntouched d.beside × IsUntouched d.made
-CommandEnds (Sweep format capacities asked) d ending =
-    SweepEnds format asked (capacities_in capacities) d.trace d.report ending × IsReadFrom d.trace × IsUntouched d.beside × IsUntouched d.made
+CommandEnds (Sweep format capacities policies asked) d ending =
+    SweepEnds format asked (capacities_in capacities) (names_of policies) d.trace d.report ending × IsReadFrom d.trace × IsUntouched d.beside × IsUntouched d.made
 CommandEnds (Judge format asked) d ending = JudgeEnds format asked d.trace d.beside d.report ending × IsReadFrom d.trace × IsReadFrom d.beside × IsUntouched d.made
 CommandEnds (Demo drawing asked) d ending = DemoEnds drawing asked d.report ending × IsUntouched d.trace × IsUntouched d.beside × IsUntouched d.made
 CommandEnds Upgrade d ending = UpgradeEnds d.beside d.report d.made ending × IsReadFrom d.beside × IsUntouched d.trace
@@ -150,7 +151,7 @@ AreGoodInputs (Check format) d = IsGoodTrace format d.trace.before × IsSome d.b
 AreGoodInputs (Replay format r) d = IsGoodTrace format d.trace.before
 AreGoodInputs (Curve format) d = IsGoodTrace format d.trace.before
 AreGoodInputs (CapacityCurve format capacities asked) d = IsGoodTrace format d.trace.before
-AreGoodInputs (Sweep format capacities asked) d = IsGoodPass format d.trace.before
+AreGoodInputs (Sweep format capacities policies asked) d = IsGoodPass format d.trace.before
 AreGoodInputs (Judge format asked) d = IsSome d.trace.before × IsSome d.beside.before
 AreGoodInputs (Demo drawing asked) d = ¬ (RefusesDenominator asked (trace_drawn drawing))
 AreGoodInputs Upgrade d = IsGoodCertificate d.beside.before
@@ -193,7 +194,7 @@ Answers (Check format) d status = AnswersOf format d.trace.before d.beside.befor
 Answers (Replay format r) d status = (status ≡ Done) ⊎ (status ≡ NoMemory)
 Answers (Curve format) d status = AnswersCurveOf format d.trace.before status
 Answers (CapacityCurve format capacities asked) d status = (status ≡ Done) ⊎ (status ≡ NoMemory)
-Answers (Sweep format capacities asked) d status = (status ≡ Done) ⊎ (status ≡ NoMemory)
+Answers (Sweep format capacities policies asked) d status = (status ≡ Done) ⊎ (status ≡ NoMemory)
 Answers (Judge format asked) d status = AnswersJudge format asked d.trace.before d.beside.before status
 Answers (Demo drawing asked) d status = (status ≡ Done) ⊎ (status ≡ NoMemory)
 Answers Upgrade d status = (status ≡ Done) ⊎ (status ≡ NoMemory)

@@ -1,5 +1,5 @@
 -- What a sweep shows.
-use Rattle.std.specs.Prelude.{◌≡◌, ℕ, List, length, None, Some}
+use Rattle.std.specs.Prelude.{◌≡◌, ℕ, List, [], length, None, Some}
 use Rattle.std.specs.declared.option.Option.{Option}
 use Rattle.bound_io.specs.Devices.{Device, HasFailed}
 use Rattle.cache_rules.specs.Stored.{Requests}
@@ -11,7 +11,12 @@ use Rattle.trace_any.specs.Loads.{IsRead, pass_limits}
 use Rattle.trace_any.specs.Readers.{Notes}
 use Rattle.trace_any.specs.Readings.{reading}
 use Rattle.trace_sweep.specs.Swept.{IsNotSwept}
-use Rattle.trace_sweep.specs.Points.{AreSweepPoints}
+use Rattle.policy_model.specs.declared.names.PolicyName.{PolicyName}
+use Rattle.policy_sweep.specs.declared.running.PolicyReplay.{PolicyReplay}
+use Rattle.policy_sweep.specs.Replays.{AreReplays}
+use Rattle.policy_stream.specs.Streams.{settings_of}
+use Rattle.trace_sweep.specs.Online.{told_of}
+use Rattle.trace_sweep.specs.Points.{AreSweepPoints, AreWithin}
 use Rattle.trace_sweep.specs.declared.points.SweepPoint.{SweepPoint}
 use Rattle.trace_sweep.specs.declared.sweeping.Swept.{Swept}
 use Rattle.bound_report.specs.declared.rendering.Counting.{Counting}
@@ -21,28 +26,29 @@ use Rattle.bound_report.specs.Rendering.{rendered}
 use Rattle.bound_report.specs.declared.refusal.LimitName.TheVariants.{PassRequests, PassBytes}
 use Rattle.bound_report.specs.declared.refusal.Refusal.{Refusal}
 use Rattle.bound_report.specs.declared.refusal.Refusal.TheVariants as refusal
+use Rattle.bound_words.specs.Policies.{policies_in}
 use Rattle.bound_words.specs.declared.plans.SweepSettings.{SweepSettings}
 use Rattle.bound_run.specs.Countings.{counting_from}
 
 -- what the report of a sweep states
-abbrev pub sweep_facts : SweepSettings → List ℕ → Requests → ℕ → SweepFacts
-sweep_facts asked capacities trace dropped = record {
+abbrev pub sweep_facts : SweepSettings → List ℕ → List PolicyName → Requests → ℕ → SweepFacts
+sweep_facts asked capacities policies trace dropped = record {
   requests = length trace.objects;
   objects = length (objects_of trace.objects);
   dropped = dropped;
   capacities = length capacities;
-  policies = 0;
+  policies = length policies;
   delay = asked.delay;
 }
 
 -- what it states of what a sweep found
-abbrev pub swept_facts : SweepSettings → ℕ → Swept → SweepFacts
-swept_facts asked capacities swept = record {
+abbrev pub swept_facts : SweepSettings → ℕ → ℕ → Swept → SweepFacts
+swept_facts asked capacities policies swept = record {
   requests = swept.requests;
   objects = swept.objects;
   dropped = swept.dropped;
   capacities = capacities;
-  policies = 0;
+  policies = policies;
   delay = asked.delay;
 }
 
@@ -54,14 +60,22 @@ counting_of_swept format warmup swept = record {
   stale = record { idle = format.fresh.idle; late = swept.late; stale = swept.stale };
 }
 
--- the text tells bounds at these capacities of all that the source had left, which was read in one pass
-pub record IsSweepText (format : Format) (asked : SweepSettings) (capacities : List ℕ) (source : Device) (text : List ℕ) : Type 0 where
+-- the policies of a list, if there is one
+abbrev pub names_of : Option (List ℕ) → List PolicyName
+names_of None = []
+names_of (Some list) = policies_in list
+
+-- the text tells bounds at these capacities of all that the source had left, which was read in one pass, and what each of these policies counts there, the run of its rule, which is within the bounds
+pub record IsSweepText (format : Format) (asked : SweepSettings) (capacities : List ℕ) (policies : List PolicyName) (source : Device) (text : List ℕ) : Type 0 where
   pub trace : Requests
   pub notes : Notes
   pub read : IsRead pass_limits format source trace notes
   pub points : List SweepPoint
   pub are_points : AreSweepPoints asked.warmup asked.delay trace capacities points
-  pub text_is : text ≡ rendered (counting_from format asked.warmup trace notes.noted) (sweep_lines (sweep_facts asked capacities trace notes.dropped) points)
+  pub replays : List PolicyReplay
+  pub are_replays : AreReplays (told_of format asked.warmup trace notes.noted) (settings_of policies capacities) replays
+  pub within : AreWithin points replays
+  pub text_is : text ≡ rendered (counting_from format asked.warmup trace notes.noted) (sweep_lines (sweep_facts asked capacities policies trace notes.dropped) points replays)
 
 -- why a trace is not swept: a bad line, a passed limit, a failed read, or no memory
 abbrev pub RefusesSweep : Format → Device → Refusal → Type 0

@@ -1,20 +1,22 @@
 //! A sweep over a trace, and its report.
-ghost use Rattle.std.specs.Prelude.{◌≡◌, All, IfOk, IfErr, OnOk};
+ghost use Rattle.std.specs.Prelude.{◌≡◌, ◌≢◌, All, IfOk, IfErr, OnOk};
 ghost use Rattle.bound_io.specs.Devices.{seen};
 ghost use Rattle.bound_io.specs.Reading.{LosesPrefix};
 ghost use Rattle.trace_any.specs.Readings.{IsFormat};
 ghost use Rattle.trace_sweep.specs.Swept.{IsSwept};
+ghost use Rattle.policy_model.specs.declared.names.PolicyName.TheVariants.{Belady};
 ghost use Rattle.bound_words.specs.Capacities.{capacities_in};
 ghost use Rattle.bound_run.specs.Statuses.{refusal_of_sweep};
 ghost use Rattle.bound_report.specs.Rendering.{rendered};
 ghost use Rattle.bound_report.specs.Sweeps.{sweep_lines};
 ghost use Rattle.trace_sweep.specs.Points.{HasEdges};
-ghost use Rattle.bound_run.specs.Sweeps.{IsSweepText, RefusesSweep, counting_of_swept, swept_facts};
+ghost use Rattle.bound_run.specs.Sweeps.{IsSweepText, RefusesSweep, counting_of_swept, names_of, swept_facts};
 
 use bound_base::NoMemory;
 use bound_io::Source;
 use bound_report::{Counting, LimitName, Refusal, StaleCounts, SweepFacts, SweepReport, render};
-use bound_words::{CapacityList, SweepSettings};
+use bound_words::{CapacityList, PolicyList, SweepSettings};
+use policy_model::PolicyName;
 use std::alloc::Global;
 use trace_any::{Format, TraceFault};
 use trace_sweep::{Swept, sweep};
@@ -53,11 +55,12 @@ fn sweep_report(
     format: Format,
     asked: SweepSettings,
     capacities: u64,
+    policies: u64,
     swept: &Swept,
 ) -> Result<Vec<u8>, NoMemory>
     requires edges { All HasEdges swept.now.points.items }
     ensures { IfOk result (λ text. text.items ≡ rendered (counting_of_swept format asked.warmup swept.now)
-        (sweep_lines (swept_facts asked capacities swept.now) swept.now.points.items)) }
+        (sweep_lines (swept_facts asked capacities policies swept.now) swept.now.points.items swept.now.replays.items)) }
 {
     let report = SweepReport {
         facts: SweepFacts {
@@ -65,10 +68,11 @@ fn sweep_report(
             objects: swept.objects,
             dropped: swept.dropped,
             capacities,
-            policies: 0,
+            policies,
             delay: asked.delay,
         },
         points: &swept.points,
+        replays: &swept.replays,
     };
     render(
         alloc,
@@ -77,31 +81,51 @@ fn sweep_report(
     )
 }
 
-/// The report of a sweep at these capacities over all that the source has left.
+// The policies that are named, if some are.
+fn names_of(alloc: Global, policies: &Option<PolicyList<'_>>) -> Result<Vec<PolicyName>, NoMemory>
+    ensures named { IfOk result (λ names. names.items ≡ names_of policies.now) }
+    ensures ahead_of { IfOk result (λ names. All (λ n. n ≢ Belady) names.items) }
+{
+    match policies {
+        Some(list) => list.policies(alloc),
+        None => Ok(Vec::new(alloc)),
+    }
+}
+
+/// The report of a sweep at these capacities, with these policies if some are named, over all that the source has left.
 pub(crate) fn sweep_all<T: Source>(
     alloc: Global,
     format: Format,
     asked: SweepSettings,
     capacities: &CapacityList<'_>,
+    policies: &Option<PolicyList<'_>>,
     trace: &mut T,
 ) -> Result<Vec<u8>, Refusal>
     requires format { IsFormat format }
-    ensures swept { IfOk result (λ text. IsSweepText format asked (capacities_in capacities.now) (seen T.left T.faults trace.old trace.new) text.items) }
+    ensures swept { IfOk result (λ text. IsSweepText format asked (capacities_in capacities.now) (names_of policies.now) (seen T.left T.faults trace.old trace.new) text.items) }
     ensures refused { IfErr result (RefusesSweep format (seen T.left T.faults trace.old trace.new)) }
     ensures source { LosesPrefix (T.left trace.old) (T.left trace.new) }
     ensures none_failed { OnOk result (T.faults trace.new ≡ T.faults trace.old) }
 {
     let capacities = capacities.capacities(alloc)?;
+    let names = names_of(alloc, policies)?;
     match sweep(
         alloc,
         format,
         &capacities,
-        &[],
+        &names,
         asked.warmup,
         asked.delay,
         trace,
     ) {
-        Ok(swept) => Ok(sweep_report(alloc, format, asked, capacities.len() as u64, &swept)?),
+        Ok(swept) => Ok(sweep_report(
+            alloc,
+            format,
+            asked,
+            capacities.len() as u64,
+            names.len() as u64,
+            &swept,
+        )?),
         Err(fault) => Err(refusal_of_sweep(fault)),
     }
 }

@@ -7,6 +7,7 @@ ghost use Rattle.bound_run.specs.Headline.{Headline};
 ghost use Rattle.bound_run.specs.Run.{BoundsEnd, CapacityCurveEnds, CheckEnds, Completes, CurveEnds, DemoEnds};
 ghost use Rattle.bound_run.specs.Run.{IsCalm, JudgeEnds, RefineEnds, ReplayEnds, RunEnds, SweepEnds, UpgradeEnds, devices};
 ghost use Rattle.bound_run.specs.Statuses.{ending_of};
+ghost use Rattle.bound_run.specs.Sweeps.{names_of};
 ghost use Rattle.bound_words.specs.Capacities.{capacities_in};
 ghost use Rattle.bound_words.specs.Plans.{IsPlanInRange};
 ghost use Rattle.bound_words.specs.Words.{plan};
@@ -23,8 +24,8 @@ use crate::writing::{refuse, write_out, write_report};
 use bound_io::{Sink, Source};
 use bound_report::Refusal;
 use bound_words::{
-    BoundSettings, CapacityList, DrawSettings, JudgeSettings, Plan, ReplaySettings, Settings,
-    SweepSettings, WordFault, plan_of, settings_of,
+    BoundSettings, CapacityList, DrawSettings, JudgeSettings, Plan, PolicyList, ReplaySettings,
+    Settings, SweepSettings, WordFault, plan_of, settings_of,
 };
 use capacity_curve::CurveTerms;
 use std::alloc::Global;
@@ -140,23 +141,24 @@ fn run_capacity_curve<T: Source, R: Sink>(
     }
 }
 
-// Goes once over the trace, and writes the bounds at these capacities.
+// Goes once over the trace, and writes the bounds at these capacities, and what the policies count there.
 fn run_sweep<T: Source, R: Sink>(
     alloc: Global,
     format: Format,
     asked: SweepSettings,
     capacities: &CapacityList<'_>,
+    policies: &Option<PolicyList<'_>>,
     trace: &mut T,
     report: &mut R,
 ) -> Status
     requires format { IsFormat format }
-    ensures ends { SweepEnds format asked (capacities_in capacities.now)
+    ensures ends { SweepEnds format asked (capacities_in capacities.now) (names_of policies.now)
         (seen T.left T.faults trace.old trace.new)
         (seen R.written R.faults report.old report.new) (ending_of result) }
     ensures source { LosesPrefix (T.left trace.old) (T.left trace.new) }
     ensures none_failed { result ≡ Status.Done → (T.faults trace.new ≡ T.faults trace.old) × (R.faults report.new ≡ R.faults report.old) }
 {
-    match sweep_all(alloc, format, asked, capacities, trace) {
+    match sweep_all(alloc, format, asked, capacities, policies, trace) {
         Ok(swept) => write_report(report, &swept),
         Err(refusal) => refuse(report, refusal),
     }
@@ -278,9 +280,15 @@ fn run_plan<T: Source, Q: Source, R: Sink, K: Sink>(
         Settings::CapacityCurve(format, capacities, asked) => {
             run_capacity_curve(alloc, format, &asked, &capacities, trace, report)
         }
-        Settings::Sweep(format, capacities, asked) => {
-            run_sweep(alloc, format, asked, &capacities, trace, report)
-        }
+        Settings::Sweep(format, capacities, policies, asked) => run_sweep(
+            alloc,
+            format,
+            asked,
+            &capacities,
+            &policies,
+            trace,
+            report,
+        ),
         Settings::Judge(format, asked) => run_judge(alloc, format, asked, trace, beside, report),
         Settings::Demo(drawing, asked) => run_demo(alloc, drawing, &asked, report),
         Settings::Upgrade => run_upgrade(alloc, beside, report, made),

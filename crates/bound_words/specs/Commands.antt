@@ -96,7 +96,7 @@ other_names command.Check = codes "block" ∷ codes "count" ∷ codes "idle" ∷
 other_names command.Replay = codes "block" ∷ codes "count" ∷ codes "idle" ∷ codes "replace" ∷ codes "warmup" ∷ codes "writes" ∷ codes "print" ∷ []
 other_names command.Curve = codes "block" ∷ codes "count" ∷ codes "idle" ∷ []
 other_names command.CapacityCurve = codes "block" ∷ codes "count" ∷ codes "idle" ∷ codes "objective" ∷ codes "denominator" ∷ codes "warmup" ∷ []
-other_names command.Sweep = codes "block" ∷ codes "count" ∷ codes "idle" ∷ codes "replace" ∷ codes "warmup" ∷ codes "delay" ∷ []
+other_names command.Sweep = codes "block" ∷ codes "count" ∷ codes "idle" ∷ codes "replace" ∷ codes "policies" ∷ codes "warmup" ∷ codes "delay" ∷ []
 other_names command.Judge = codes "block" ∷ codes "count" ∷ codes "idle" ∷ codes "replace" ∷ codes "warmup" ∷ codes "writes" ∷ []
 other_names command.Demo =
     codes "seed" ∷ codes "requests" ∷ codes "objects" ∷ codes "capacity"

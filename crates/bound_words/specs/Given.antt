@@ -17,6 +17,7 @@ use Rattle.policy_model.specs.Names.{policy_named}
 use Rattle.cache_model.specs.declared.version.TheConstants.{CERT_VERSION}
 use Rattle.bound_words.specs.Capacities.{capacity_list}
 use Rattle.bound_words.specs.Named.{value_given}
+use Rattle.bound_words.specs.Policies.{policy_list}
 use Rattle.bound_words.specs.Values.{block_of, layout_of, capacity_of, count_of, long_count_of, objective_of, width_of, window_of, mode_of, denominator_of, number_to, reads_of, replaced_of, writes_of, flags_of, version_of, whole_of, drawn_of, usual_denominator}
 
 -- the bytes of a block that the operands give, and 4096 where they give none
@@ -83,6 +84,10 @@ number_given operands = unwrap_or (option_and_then (number_to (2 ^ 48)) (value_g
 -- the policy that the operands give
 abbrev pub policy_given : List (List ℕ) → Option PolicyName
 policy_given operands = option_and_then policy_named (value_given (codes "policy") operands)
+
+-- the list of policies that the operands of a sweep give, if they do
+abbrev pub policies_given : List (List ℕ) → Option (List ℕ)
+policies_given operands = option_and_then policy_list (value_given (codes "policies") operands)
 
 -- the warm-up that the operands give, and 0 if they give none
 abbrev pub warmup_given : List (List ℕ) → ℕ

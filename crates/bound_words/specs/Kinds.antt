@@ -5,9 +5,6 @@ use Rattle.std.specs.List.{list_any}
 use Rattle.std.specs.Option.{is_some, option_map_or}
 use Rattle.bound_base.specs.Digits.{number_of}
 use Rattle.std.specs.Str.{bytes_eq}
-use Rattle.cache_model.specs.declared.objects.Objective.{Objective}
-use Rattle.bound_terms.specs.declared.modes.Mode.{Mode}
-use Rattle.bound_terms.specs.declared.modes.Window.{Window}
 use Rattle.bound_terms.specs.declared.modes.Window.TheVariants.{All as Whole}
 use Rattle.policy_model.specs.Names.{policy_named}
 use Rattle.bound_words.specs.declared.commands.Command.{Command}
@@ -17,6 +14,8 @@ use Rattle.bound_words.specs.declared.kinds.Kind.TheVariants as kind
 use Rattle.bound_words.specs.declared.kinds.Values.{Values}
 use Rattle.bound_words.specs.declared.kinds.Values.TheVariants as values
 use Rattle.bound_words.specs.Capacities.{capacities_of}
+use Rattle.bound_words.specs.Commands.{all_commands, has_operand}
+use Rattle.bound_words.specs.Policies.{policies_of}
 use Rattle.bound_words.specs.Values.{block_of, layout_of, capacity_of, count_of, long_count_of, objective_of, width_of, window_of, mode_of, denominator_of, number_to, reads_of, replaced_of, writes_of, flags_of, version_of, whole_of, drawn_of, named}
 
 -- whether a value is of this kind
@@ -35,6 +34,7 @@ takes kind.Width value = is_some (width_of value)
 takes kind.Denominator value = is_some (denominator_of value)
 takes kind.Number value = is_some (number_to (2 ^ 48) value)
 takes kind.Policy value = is_some (policy_named value)
+takes kind.Policies value = is_some (policies_of value)
 takes kind.Warmup value = is_some (count_of value)
 takes kind.Requests value = is_some (long_count_of value)
 takes kind.Version value = is_some (version_of value)
@@ -53,6 +53,7 @@ accepts (values.Words words) value = list_any (λ word. bytes_eq value word.now)
 accepts (values.Number least most) value = is_within least most value
 accepts (values.WordOrNumber words most) value = list_any (λ word. bytes_eq value word.now) words.now || is_within 1 most value
 accepts values.Policy value = is_some (policy_named value)
+accepts values.Policies value = is_some (policies_of value)
 accepts values.Capacities value = is_some (capacities_of value)
 
 -- what the operand of a name has for its value in most commands
@@ -78,7 +79,7 @@ usual_kind name =
     else (if bytes_eq name (codes "requests") || bytes_eq name (codes "objects") then Some kind.Drawn
     else None)))))))))))))))))
 
--- what it has in a command: the window of a refinement is a number of steps, over capacities the denominator is a number, and the warm-up of a sweep may have any length
+-- what it has in a command: the window of a refinement is a number of steps, over capacities the denominator is a number, and a sweep may have a warm-up of any length and a list of policies
 abbrev pub kind_of : Command → List ℕ → Option Kind
 kind_of command.Refine name = if bytes_eq name (codes "window") then Some kind.Width else usual_kind name
 kind_of command.CapacityCurve name =
@@ -87,13 +88,14 @@ kind_of command.CapacityCurve name =
     else usual_kind name)
 kind_of command.Sweep name =
     if bytes_eq name (codes "capacities") then Some kind.Capacities
+    else (if bytes_eq name (codes "policies") then Some kind.Policies
     else (if bytes_eq name (codes "warmup") then Some kind.Requests
-    else usual_kind name)
+    else usual_kind name))
 kind_of command name = usual_kind name
 
--- whether a name is that of an operand of some command, of which a curve over capacities has each kind
+-- whether a name is that of an operand of some command
 abbrev pub is_operand : List ℕ → Bool
-is_operand name = is_some (kind_of command.CapacityCurve name)
+is_operand name = list_any (λ asked. has_operand asked name) all_commands
 
 -- whether the operand of a name may have this value in a command
 abbrev pub takes_value : Command → List ℕ → List ℕ → Bool

@@ -1,4 +1,5 @@
 pub mod Capacities
+pub mod Policies
 pub mod Ranges
 pub mod Commands
 pub mod Values

@@ -20,7 +20,7 @@ use Rattle.bound_terms.specs.declared.words.WordKind.TheVariants.{BadValue}
 use Rattle.bound_words.specs.Commands.{places_of}
 use Rattle.bound_words.specs.Faults.{◌>>=◌, fault, passed, required}
 use Rattle.bound_words.specs.Given.{capacities_given, capacity_given, capacity_or_usual, delay_given, denominator_given, format_given, mode_given, number_given}
-use Rattle.bound_words.specs.Given.{flags_given, long_warmup_given, objective_given, objects_given, policy_given, requests_given, seed_given, version_given, warmup_given, width_given, writes_given}
+use Rattle.bound_words.specs.Given.{flags_given, long_warmup_given, objective_given, objects_given, policies_given, policy_given, requests_given, seed_given, version_given, warmup_given, width_given, writes_given}
 use Rattle.bound_words.specs.Ranges.{AreBoundSettingsInRange, AreDrawSettingsInRange, AreReplaySettingsInRange}
 
 -- the settings of bounds, in the order of a plan
@@ -38,7 +38,7 @@ settings_of (plan.Replay format capacity policy warmup writes flags) =
 settings_of (plan.Curve format) = Curve format
 settings_of (plan.CapacityCurve format capacities objective denominator warmup) =
     CapacityCurve format capacities (record { objective = objective; denominator = denominator; warmup = warmup })
-settings_of (plan.Sweep format capacities warmup delay) = Sweep format capacities (record { warmup = warmup; delay = delay })
+settings_of (plan.Sweep format capacities policies warmup delay) = Sweep format capacities policies (record { warmup = warmup; delay = delay })
 settings_of (plan.Judge format capacity warmup writes) = Judge format (record { capacity = capacity; warmup = warmup; writes = writes })
 settings_of (plan.Demo seed requests objects capacity objective mode denominator) =
     Demo (record { seed = seed; requests = requests; objects = objects }) (bound_settings capacity objective mode denominator 0 CERT_VERSION false)
@@ -52,7 +52,7 @@ AreSettingsInRange (Check format) = IsFormat format
 AreSettingsInRange (Replay format asked) = IsFormat format × AreReplaySettingsInRange asked
 AreSettingsInRange (Curve format) = IsFormat format
 AreSettingsInRange (CapacityCurve format capacities asked) = IsFormat format × (1 ≤ asked.denominator) × (asked.denominator ≤ 2 ^ 48) × (asked.warmup ≤ 2 ^ 25)
-AreSettingsInRange (Sweep format capacities asked) = IsFormat format
+AreSettingsInRange (Sweep format capacities policies asked) = IsFormat format
 AreSettingsInRange (Judge format asked) = IsFormat format × (1 ≤ asked.capacity) × (asked.capacity ≤ 2 ^ 56) × (asked.warmup ≤ 2 ^ 25)
 AreSettingsInRange (Demo drawing asked) = AreDrawSettingsInRange drawing × AreBoundSettingsInRange asked
 AreSettingsInRange Upgrade = Unit {0}
@@ -96,7 +96,7 @@ abbrev pub sweep_plan : ℕ → List (List ℕ) → Result Plan WordFault
 sweep_plan end operands = do
   format ← required end (format_given operands)
   capacities ← required end (capacities_given operands)
-  Ok (plan.Sweep format capacities (long_warmup_given operands) (delay_given operands))
+  Ok (plan.Sweep format capacities (policies_given operands) (long_warmup_given operands) (delay_given operands))
 
 -- the plan of a demo that accepted operands give, none of which is required
 abbrev pub demo_plan : List (List ℕ) → Plan

@@ -20,8 +20,8 @@ struct Next<'a> {
     left: Option<&'a str>,
 }
 
-// The first word of a list, and what is left after its comma, if it has one.
-fn cut(list: &str) -> (&str, Option<&str>)
+/// The first word of a list, and what is left after its comma, if it has one.
+pub(crate) fn cut(list: &str) -> (&str, Option<&str>)
     ensures { words_of_list list.now ≡ result.0.now ∷ words_left (option_copied result.1) }
 {
     match list.split_once(',') {

@@ -134,6 +134,7 @@ impl Command {
                 "count",
                 "idle",
                 "replace",
+                "policies",
                 "warmup",
                 "delay",
             ],
@@ -196,7 +197,8 @@ impl Command {
             ],
             Command::Sweep => &[
                 "bound_cli sweep TRACE format=FORM capacities=LIST [block=BYTES] [count=COUNTED]",
-                "    [idle=TIME] [replace=REPLACED] [warmup=REQUESTS] [delay=REQUESTS]",
+                "    [idle=TIME] [replace=REPLACED] [policies=NAMES] [warmup=REQUESTS]",
+                "    [delay=REQUESTS]",
             ],
             Command::Judge => &[
                 "bound_cli judge TRACE HITS format=FORM capacity=BYTES [block=BYTES] [count=COUNTED]",

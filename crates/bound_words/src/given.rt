@@ -5,12 +5,13 @@ ghost use Rattle.relaxation.specs.Denominators.{IsChoice};
 ghost use Rattle.trace_any.specs.Readings.{IsFormat};
 ghost use Rattle.bound_words.specs.Ranges.{IsModeInRange};
 ghost use Rattle.bound_words.specs.Given.{block_given, capacities_given, capacity_given, capacity_or_usual, delay_given, denominator_given, drawn_given, flags_given, format_given, fresh_given};
-ghost use Rattle.bound_words.specs.Given.{idle_given, long_warmup_given, mode_given, number_given, objective_given, objects_given, policy_given, reads_given, replaced_given, requests_given, seed_given};
+ghost use Rattle.bound_words.specs.Given.{idle_given, long_warmup_given, mode_given, number_given, objective_given, objects_given, policies_given, policy_given, reads_given, replaced_given, requests_given, seed_given};
 ghost use Rattle.bound_words.specs.Given.{version_given, warmup_given, width_given, window_given, writes_given};
 ghost use Rattle.cache_model.specs.declared.version.TheConstants.{CERT_VERSION, SHORT_VERSION};
 
 use crate::capacities::CapacityList;
 use crate::named::value_given;
+use crate::policies::PolicyList;
 use crate::values::{
     MOST_DENOMINATOR, USUAL_BLOCK, block_of, capacity_of, count_of, denominator_of, drawn_of,
     flags_of, layout_of, long_count_of, mode_of, number_of, objective_of, reads_of, replaced_of,
@@ -169,6 +170,13 @@ pub(crate) fn policy_given(operands: &[String]) -> Option<PolicyName>
     ensures { result ≡ policy_given (map string_bytes operands.now) }
 {
     PolicyName::named(value_given("policy", operands)?)
+}
+
+/// The policies that a sweep replays, if it is asked for some.
+pub(crate) fn policies_given(operands: &[String]) -> Option<PolicyList<'_>>
+    ensures { result ≡ policies_given (map string_bytes operands.now) }
+{
+    PolicyList::of(value_given("policies", operands)?)
 }
 
 pub(crate) fn warmup_given(operands: &[String]) -> u32

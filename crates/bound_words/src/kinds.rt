@@ -4,7 +4,8 @@ ghost use Rattle.bound_words.specs.declared.commands.Command.{Command};
 ghost use Rattle.bound_words.specs.Kinds.{accepts, is_operand, kind_of, takes, takes_value, usual_kind};
 
 use crate::capacities::CapacityList;
-use crate::commands::Command;
+use crate::commands::{Command, has_operand};
+use crate::policies::PolicyList;
 use crate::values::{
     MOST_BLOCK, MOST_CAPACITY, MOST_DENOMINATOR, MOST_DRAWN, MOST_REQUESTS, MOST_WINDOW,
     USUAL_BLOCK, block_of, capacity_of, count_of, denominator_of, drawn_of, flags_of, is,
@@ -46,6 +47,8 @@ pub enum Kind {
     Number,
     /// The rule of a replay.
     Policy,
+    /// A list of policies, each once, none of which looks ahead.
+    Policies,
     /// How many requests, which may be none.
     Warmup,
     /// How many requests of a trace of any length, which may be none.
@@ -79,6 +82,8 @@ pub enum Values {
     },
     /// The word of a policy.
     Policy,
+    /// Words of policies but `belady`, with commas between, each once.
+    Policies,
     /// At most `MOST_CAPACITIES` capacities with commas between, each greater than the one before it.
     Capacities,
 }
@@ -103,6 +108,7 @@ impl Kind {
             Kind::Denominator => denominator_of(value).is_some(),
             Kind::Number => number_of(value).is_some(),
             Kind::Policy => PolicyName::named(value).is_some(),
+            Kind::Policies => PolicyList::of(value).is_some(),
             Kind::Warmup => count_of(value).is_some(),
             Kind::Requests => long_count_of(value).is_some(),
             Kind::Version => version_of(value).is_some(),
@@ -138,6 +144,7 @@ impl Kind {
             },
             Kind::Number => up_to(MOST_DENOMINATOR),
             Kind::Policy => Values::Policy,
+            Kind::Policies => Values::Policies,
             Kind::Warmup => from_0(MOST_REQUESTS),
             Kind::Requests => from_0(u64::from(u32::MAX)),
             Kind::Version => up_to(u64::from(SHORT_VERSION)),
@@ -227,6 +234,8 @@ fn kind_in_sweep(name: &str) -> Option<Kind>
 {
     if is(name, "capacities") {
         Some(Kind::Capacities)
+    } else if is(name, "policies") {
+        Some(Kind::Policies)
     } else if is(name, "warmup") {
         Some(Kind::Requests)
     } else {
@@ -235,7 +244,7 @@ fn kind_in_sweep(name: &str) -> Option<Kind>
 }
 
 /// What the operand of a name has for its value in a command. A refinement has a number of steps for its window, a curve
-/// over capacities has a number for its denominator, and a sweep may have a warm-up of any length.
+/// over capacities has a number for its denominator, and a sweep may have a warm-up of any length and a list of policies.
 pub fn kind_of(command: Command, name: &str) -> Option<Kind>
     ensures { result ≡ kind_of command name.now }
 {
@@ -251,7 +260,8 @@ pub fn kind_of(command: Command, name: &str) -> Option<Kind>
 pub fn is_operand(name: &str) -> bool
     ensures { result ≡ is_operand name.now }
 {
-    kind_over_capacities(name).is_some()
+    let mut commands = Command::ALL.iter().copied();
+    commands.any(|command| has_operand(command, name))
 }
 
 /// Whether an operand of a command may have this value.

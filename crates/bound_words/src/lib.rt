@@ -12,6 +12,7 @@ mod making;
 mod named;
 mod paths;
 mod plans;
+mod policies;
 mod values;
 mod words;
 
@@ -25,5 +26,6 @@ pub use plans::{
     BoundSettings, DrawSettings, JudgeSettings, Plan, ReplaySettings, Settings, SweepSettings,
     settings_of,
 };
+pub use policies::PolicyList;
 pub use values::{MOST_CAPACITY, MOST_DENOMINATOR};
 pub use words::{WordFault, command_asked, operands_of, plan_of};

@@ -10,8 +10,8 @@ use crate::commands::{Command, PathPlaces};
 use crate::given::{
     capacities_given, capacity_given, capacity_or_usual, delay_given, denominator_given,
     flags_given, format_given, long_warmup_given, mode_given, number_given, objective_given,
-    objects_given, policy_given, requests_given, seed_given, version_given, warmup_given,
-    width_given, writes_given,
+    objects_given, policies_given, policy_given, requests_given, seed_given, version_given,
+    warmup_given, width_given, writes_given,
 };
 use crate::plans::Plan;
 use crate::values::is;
@@ -178,6 +178,7 @@ fn sweep_plan(end: u64, operands: &[String]) -> Result<Plan<'_>, WordFault>
     Ok(Plan::Sweep {
         format,
         capacities,
+        policies: policies_given(operands),
         warmup: long_warmup_given(operands),
         delay: delay_given(operands),
     })

@@ -8,6 +8,7 @@ ghost use Rattle.bound_words.specs.Plans.{IsPlanInRange, bound_settings, setting
 ghost use Rattle.bound_words.specs.Ranges.{AreBoundSettingsInRange, AreDrawSettingsInRange, AreReplaySettingsInRange};
 
 use crate::capacities::CapacityList;
+use crate::policies::PolicyList;
 use bound_terms::Mode;
 use cache_model::{CERT_VERSION, Terms};
 use cache_rules::Objective;
@@ -60,10 +61,11 @@ pub enum Plan<'a> {
         warmup: u32,
     },
     /// Bounds on the best scores on a trace of this form from request `warmup` on, at each of the capacities, also of caches
-    /// that let an object in up to `delay` requests after it was asked for.
+    /// that let an object in up to `delay` requests after it was asked for; if there are policies, also their hits.
     Sweep {
         format: Format,
         capacities: CapacityList<'a>,
+        policies: Option<PolicyList<'a>>,
         warmup: u32,
         delay: u32,
     },
@@ -148,7 +150,7 @@ pub enum Settings<'a> {
     Replay(Format, ReplaySettings),
     Curve(Format),
     CapacityCurve(Format, CapacityList<'a>, CurveTerms),
-    Sweep(Format, CapacityList<'a>, SweepSettings),
+    Sweep(Format, CapacityList<'a>, Option<PolicyList<'a>>, SweepSettings),
     Judge(Format, JudgeSettings),
     Demo(DrawSettings, BoundSettings),
     Upgrade,
@@ -312,9 +314,15 @@ pub fn settings_of(plan: Plan<'_>) -> Settings<'_>
         Plan::Sweep {
             format,
             capacities,
+            policies,
             warmup,
             delay,
-        } => Settings::Sweep(format, capacities, SweepSettings { warmup, delay }),
+        } => Settings::Sweep(
+            format,
+            capacities,
+            policies,
+            SweepSettings { warmup, delay },
+        ),
         Plan::Judge {
             format,
             capacity,

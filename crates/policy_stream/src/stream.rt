@@ -14,8 +14,7 @@ use cache_model::Object;
 use freshness::Id;
 use indexmap::IndexMap;
 use policy_model::PolicyName;
-use policy_sweep::PolicyReplays;
-use replay_core::Replay;
+use policy_sweep::{PolicyReplay, PolicyReplays};
 use replay_fresh::replaced_by;
 use std::alloc::Global;
 
@@ -145,7 +144,7 @@ impl PolicyStream {
     }
 
     /// What each of the policies has counted, once they were told all requests.
-    pub fn finish(&mut self, alloc: Global) -> Result<Vec<Replay>, NoMemory>
+    pub fn finish(&mut self, alloc: Global) -> Result<Vec<PolicyReplay>, NoMemory>
         requires of_some { (told : Told) × (settings : List Setting) × HasBeenTold told settings self.old }
         ensures replays { IfOk result (λ replays. (told : Told) (settings : List Setting) → HasBeenTold told settings self.old
             → AreReplays told settings replays.items) }

@@ -13,7 +13,7 @@ use Rattle.any_policy.specs.Any.{kept_of, name_of}
 use Rattle.policy_sweep.specs.declared.running.Running.{Running}
 use Rattle.policy_sweep.specs.declared.replays.PolicyReplays.{PolicyReplays}
 use Rattle.policy_sweep.specs.Running.{Advances, AreAsked, IsRunning, IsToldRequest, Setting, Told}
-use Rattle.policy_sweep.specs.Replays.{HasGone, IsReplayOf}
+use Rattle.policy_sweep.specs.Replays.{HasGone, IsOfSetting}
 
 -- one request more in a batch
 asked-more : (told : Told) (objects n : ℕ) (batch : List Asked) (asked : Asked) → AreAsked told objects n batch → IsToldRequest told objects (n + length batch) asked → n + length batch + 1 < 2 ^ 32 → AreAsked told objects n (batch ++ asked ∷ [])
@@ -89,10 +89,14 @@ added-one told objects settings setting old new one pushed same other is h =
     }
 
 -- a policy that has gone through the whole trace has counted what its rule's run counts
-pub replay-of : (told : Told) (name : PolicyName) (capacity objects t : ℕ) (running : Running) → t ≡ length told.trace → IsRunning told name capacity objects t running → IsReplayOf told name capacity running.counts
+pub replay-of : (told : Told) (name : PolicyName) (capacity objects t : ℕ) (running : Running) → t ≡ length told.trace → IsRunning told name capacity objects t running → IsOfSetting told (record { name = name; capacity = capacity }) running.so_far
 replay-of told name capacity objects t running end is = record {
-  played = written-all capacity told.warmup told.fills told.stale told.replace told.trace (Some (start_of name capacity)) t (contents_of (kept_of running.policy)) running.counts.hits running.counts.bytes running.counts.written
-      end refl is.replayed.played;
-  run = run-all told.warmup told.fills told.stale told.replace told.trace (Some (start_of name capacity)) (Some (state_of (name_of running.policy) (kept_of running.policy))) t running.counts.hits running.counts.bytes
-      end refl is.replayed.run;
+  policy = is.named;
+  capacity = is.sized;
+  counts = record {
+    played = written-all capacity told.warmup told.fills told.stale told.replace told.trace (Some (start_of name capacity)) t (contents_of (kept_of running.policy)) running.so_far.counts.hits running.so_far.counts.bytes running.so_far.counts.written
+        end refl is.replayed.played;
+    run = run-all told.warmup told.fills told.stale told.replace told.trace (Some (start_of name capacity)) (Some (state_of (name_of running.policy) (kept_of running.policy))) t running.so_far.counts.hits running.so_far.counts.bytes
+        end refl is.replayed.run;
+  };
 }

@@ -6,6 +6,7 @@ use Rattle.policy_model.specs.States.{start_of}
 use Rattle.replay_core.specs.declared.counts.Replay.{Replay}
 use Rattle.replay_fresh.specs.FreshRuns.{IsFreshRunOf, IsFreshlyPlayed}
 use Rattle.replay_steps.specs.declared.asked.Asked.{Asked}
+use Rattle.policy_sweep.specs.declared.running.PolicyReplay.{PolicyReplay}
 use Rattle.policy_sweep.specs.declared.running.Running.{Running}
 use Rattle.policy_sweep.specs.declared.replays.PolicyReplays.{PolicyReplays}
 use Rattle.policy_sweep.specs.Running.{AreAsked, IsRunning, IsToldRequest, Setting, Told}
@@ -47,7 +48,13 @@ pub record IsReplayOf (told : Told) (name : PolicyName) (capacity : ℕ) (replay
   pub played : IsFreshlyPlayed (Some (start_of name capacity)) capacity told.warmup told.fills told.stale told.replace told.trace replay.hits replay.bytes replay.written
   pub run : IsFreshRunOf (Some (start_of name capacity)) told.trace told.warmup told.fills told.stale told.replace replay.hits replay.bytes
 
+-- what is said of a policy is of these settings: its rule and its capacity, and the counts of its replay
+pub record IsOfSetting (told : Told) (setting : Setting) (replay : PolicyReplay) : Type 0 where
+  pub policy : replay.policy ≡ setting.name
+  pub capacity : replay.capacity ≡ setting.capacity
+  pub counts : IsReplayOf told setting.name setting.capacity replay.counts
+
 -- the replays of these settings, in their order
-pub record AreReplays (told : Told) (settings : List Setting) (replays : List Replay) : Type 0 where
+pub record AreReplays (told : Told) (settings : List Setting) (replays : List PolicyReplay) : Type 0 where
   pub each : length replays ≡ length settings
-  pub are : (i : ℕ) (s : Setting) (d : Replay) → i < length settings → IsReplayOf told (slice_index_or settings i s).name (slice_index_or settings i s).capacity (slice_index_or replays i d)
+  pub are : (i : ℕ) (s : Setting) (d : PolicyReplay) → i < length settings → IsOfSetting told (slice_index_or settings i s) (slice_index_or replays i d)

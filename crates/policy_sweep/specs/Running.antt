@@ -38,7 +38,9 @@ pub record IsRunning (told : Told) (name : PolicyName) (capacity objects t : ℕ
   pub rule : name_of running.policy ≡ name
   pub capacity_is : (kept_of running.policy).capacity ≡ capacity
   pub objects_are : (kept_of running.policy).objects ≡ objects
-  pub replayed : IsReplayedTo (replaying told name capacity) t (Some (state_of (name_of running.policy) (kept_of running.policy))) (contents_of (kept_of running.policy)) running.counts
+  pub replayed : IsReplayedTo (replaying told name capacity) t (Some (state_of (name_of running.policy) (kept_of running.policy))) (contents_of (kept_of running.policy)) running.so_far.counts
+  pub named : running.so_far.policy ≡ name
+  pub sized : running.so_far.capacity ≡ capacity
 
 -- this is what request t asks of a policy that doesn't look ahead
 pub record IsToldRequest (told : Told) (objects t : ℕ) (asked : Asked) : Type 0 where

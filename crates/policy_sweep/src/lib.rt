@@ -8,3 +8,4 @@ mod replays;
 mod running;
 
 pub use replays::PolicyReplays;
+pub use running::PolicyReplay;

@@ -5,10 +5,9 @@ ghost use Rattle.policy_sweep.specs.declared.running.Running.{Running};
 ghost use Rattle.policy_sweep.specs.Running.{Advances, IsAnyRunning, IsToldRequest, Setting, Told};
 ghost use Rattle.policy_sweep.specs.Replays.{AreReplays, HasGone, HasGoneSome, IsNextOfSome, is_idle};
 
-use crate::running::Running;
+use crate::running::{PolicyReplay, Running};
 use bound_base::NoMemory;
 use policy_model::PolicyName;
-use replay_core::Replay;
 use replay_steps::Asked;
 use std::alloc::Global;
 
@@ -41,14 +40,14 @@ fn go_through_all(
 }
 
 // What each of the policies has counted.
-fn counts_of(alloc: Global, running: &[Running]) -> Result<Vec<Replay>, NoMemory>
-    ensures { IfOk result (λ counts. counts.items ≡ map (λ r. r.counts) running.now) }
+fn replays_of(alloc: Global, running: &[Running]) -> Result<Vec<PolicyReplay>, NoMemory>
+    ensures { IfOk result (λ replays. replays.items ≡ map (λ r. r.so_far) running.now) }
 {
-    let mut counts = Vec::with_capacity(alloc, running.len())?;
+    let mut replays = Vec::with_capacity(alloc, running.len())?;
     for one in running {
-        counts.push(one.counts)?;
+        replays.push(one.so_far)?;
     }
-    Ok(counts)
+    Ok(replays)
 }
 
 impl PolicyReplays {
@@ -113,13 +112,12 @@ impl PolicyReplays {
     }
 
     /// What each of the policies has counted, once it has gone through all requests.
-    pub fn finish(&mut self, alloc: Global) -> Result<Vec<Replay>, NoMemory>
+    pub fn finish(&mut self, alloc: Global) -> Result<Vec<PolicyReplay>, NoMemory>
         requires of_some { HasGoneSome self.old }
         ensures replays { IfOk result (λ replays. (told : Told) (objects : ℕ) (settings : List Setting) → HasGone told objects settings (length told.trace) self.old
             → AreReplays told settings replays.items) }
     {
         self.flush(alloc)?;
-        let counts = counts_of(alloc, &self.running)?;
-        Ok(counts)
+        replays_of(alloc, &self.running)
     }
 }

@@ -11,11 +11,19 @@ use replay_core::Replay;
 use replay_steps::{Asked, begin, step};
 use std::alloc::Global;
 
+/// What a policy has counted at a capacity, in bytes.
+#[derive(Clone, Copy, Debug, PartialEq, Eq)]
+pub struct PolicyReplay {
+    pub policy: PolicyName,
+    pub capacity: u64,
+    pub counts: Replay,
+}
+
 /// A policy in a replay, and what it has counted so far.
 #[derive(Drop)]
 pub(crate) struct Running {
     pub(crate) policy: AnyPolicy,
-    pub(crate) counts: Replay,
+    pub(crate) so_far: PolicyReplay,
 }
 
 impl Running {
@@ -31,8 +39,12 @@ impl Running {
         ensures { IfOk result (λ running. (told : Told) → IsRunning told name capacity objects 0 running) }
     {
         let policy = AnyPolicy::new(alloc, name, capacity, objects)?;
-        let counts = begin(&policy);
-        Ok(Running { policy, counts })
+        let so_far = PolicyReplay {
+            policy: name,
+            capacity,
+            counts: begin(&policy),
+        };
+        Ok(Running { policy, so_far })
     }
 
     // Asks the policy for one request more.
@@ -41,7 +53,7 @@ impl Running {
         ensures more { OnOk result ((told : Told) (name : PolicyName) (capacity objects t : ℕ) → name ≢ Belady → IsToldRequest told objects t asked.now
             → IsRunning told name capacity objects t self.old → IsRunning told name capacity objects (t + 1) self.new) }
     {
-        self.counts = step(alloc, &mut self.policy, asked, self.counts)?;
+        self.so_far.counts = step(alloc, &mut self.policy, asked, self.so_far.counts)?;
         Ok(())
     }
 

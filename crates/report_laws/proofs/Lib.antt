@@ -6,4 +6,5 @@ pub mod Bounds
 pub mod Verdicts
 pub mod Refinements
 pub mod Demos
+pub mod PolicyLines
 pub mod Sweeps

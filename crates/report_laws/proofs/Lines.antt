@@ -18,7 +18,7 @@ Small numbers = AllByRecursion IsPrintable numbers
 abbrev pub Lacks : ℕ → List ℕ → Type 0
 Lacks sep text = list_all (λ byte. not (byte == sep)) text ≡ true
 
-lacks-append : (sep : ℕ) (a b : List ℕ) → Lacks sep a → Lacks sep b → Lacks sep (a ++ b)
+pub lacks-append : (sep : ℕ) (a b : List ℕ) → Lacks sep a → Lacks sep b → Lacks sep (a ++ b)
 lacks-append sep a b ok_a ok_b = list_all-append (λ byte. not (byte == sep)) a b ∙ and_from _ _ ok_a ok_b
 
 -- a byte that is no digit
@@ -44,7 +44,7 @@ has_byte sep [] b lacks = let off : not (sep == sep) ≡ false = ap not (eq-eqb 
 has_byte sep (x ∷ a) b lacks = has_byte sep a b (lacks-tail sep x (a ++ sep ∷ b) lacks)
 
 -- two texts that are cut behind the last of a byte
-cut_last : (sep : ℕ) (a b xs ys : List ℕ) → Lacks sep xs → Lacks sep ys → a ++ sep ∷ xs ≡ b ++ sep ∷ ys → (a ≡ b) × (xs ≡ ys)
+pub cut_last : (sep : ℕ) (a b xs ys : List ℕ) → Lacks sep xs → Lacks sep ys → a ++ sep ∷ xs ≡ b ++ sep ∷ ys → (a ≡ b) × (xs ≡ ys)
 cut_last sep [] [] xs ys la lb e = (refl, cc)
 cut_last sep [] (y ∷ b) xs ys la lb e = let rest : xs ≡ b ++ sep ∷ ys = cc in absurd (has_byte sep b ys (subst (Lacks sep) rest la))
 cut_last sep (x ∷ a) [] xs ys la lb e = let rest : ys ≡ a ++ sep ∷ xs = cc in absurd (has_byte sep a xs (subst (Lacks sep) rest lb))
@@ -94,7 +94,7 @@ is_part (After byte) = not (byte == 10) && nat_lt byte 48
 below_digits : (byte : ℕ) → nat_lt byte 48 ≡ true → IsNoDigit byte
 below_digits byte low d small e = omega (arith, ltb-true byte 48 low)
 
-spell_lacks : (parts : List Part) (text numbers : List ℕ) → list_all is_part parts ≡ true → Small numbers → Lacks 10 text → Lacks 10 (spell text parts numbers)
+pub spell_lacks : (parts : List Part) (text numbers : List ℕ) → list_all is_part parts ≡ true → Small numbers → Lacks 10 text → Lacks 10 (spell text parts numbers)
 spell_lacks [] text numbers ok small lacks = lacks
 spell_lacks (Words words ∷ parts) text numbers ok small lacks =
     let both = and_parts (is_part (Words words)) (list_all is_part parts) ok in
@@ -111,7 +111,7 @@ spell_lacks (After byte ∷ parts) text (n ∷ numbers) ok small lacks =
 pub line_lacks : (parts : List Part) (numbers : List ℕ) → list_all is_part parts ≡ true → Small numbers → Lacks 10 (spell [] parts numbers)
 line_lacks parts numbers ok small = spell_lacks parts [] numbers ok small refl
 
-spell_apart : (parts : List Part) (a b xs ys : List ℕ) → list_all is_part parts ≡ true → length xs ≡ count parts → length ys ≡ count parts
+pub spell_apart : (parts : List Part) (a b xs ys : List ℕ) → list_all is_part parts ≡ true → length xs ≡ count parts → length ys ≡ count parts
     → Small xs → Small ys → spell a parts xs ≡ spell b parts ys → (a ≡ b) × (xs ≡ ys)
 spell_apart [] a b [] [] ok nx ny px py e = (e, refl)
 spell_apart [] a b [] (y ∷ ys) ok nx ny px py e = absurd (omega arith)

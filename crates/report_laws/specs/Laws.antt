@@ -1,5 +1,5 @@
 -- A printed report can be read in one way only; each law is the contract of a function.
-use Rattle.std.specs.Prelude.{◌≡◌, ℕ, ◌^◌, ◌<◌, Bool, false, List, [], ◌∷◌, ◌++◌, All, IfSome, None, Some, flat_map}
+use Rattle.std.specs.Prelude.{◌≡◌, ℕ, ◌^◌, ◌<◌, ◌==◌, Bool, false, List, [], ◌∷◌, ◌++◌, All, IfSome, None, Some, filter, flat_map, map}
 use Rattle.std.specs.declared.option.Option.{Option}
 use Rattle.cache_model.specs.declared.certificates.Header.{Header}
 use Rattle.cert_checker.specs.declared.verdict.Verdict.{Verdict}
@@ -12,6 +12,7 @@ use Rattle.bound_report.specs.declared.demo.PolicyReplays.{PolicyReplays}
 use Rattle.bound_report.specs.declared.rendering.Counting.{Counting}
 use Rattle.bound_report.specs.declared.rendering.StaleCounts.{StaleCounts}
 use Rattle.bound_report.specs.declared.sweeps.SweepFacts.{SweepFacts}
+use Rattle.policy_sweep.specs.declared.running.PolicyReplay.{PolicyReplay}
 use Rattle.trace_sweep.specs.declared.points.SweepPoint.{SweepPoint}
 use Rattle.bound_report.specs.Demos.{demo_text}
 use Rattle.bound_report.specs.Refinements.{refined_lines}
@@ -126,14 +127,27 @@ DemosHaveOneReading =
 abbrev pub point_numbers : SweepPoint → List ℕ
 point_numbers p = p.capacity ∷ p.bounds.hits.upper ∷ p.bounds.hits.edge ∷ p.bounds.bytes.upper ∷ p.bounds.bytes.edge ∷ []
 
--- the numbers that a sweep prints
-abbrev pub sweep_numbers : SweepFacts → List SweepPoint → List ℕ
-sweep_numbers f points = f.requests ∷ f.objects ∷ f.dropped ∷ f.capacities ∷ f.policies ∷ f.delay ∷ flat_map point_numbers points
+-- those that it prints of a policy: its capacity, its hits with their bytes, and what it writes
+abbrev pub replay_numbers_of : PolicyReplay → List ℕ
+replay_numbers_of r = r.capacity ∷ r.counts.hits ∷ r.counts.bytes ∷ r.counts.written ∷ []
 
--- two sweeps with one text have the same counts of the trace, of capacities and of policies, the same delay, and the same bounds at each capacity
+-- each point, and what the policies count at its capacity
+abbrev pub with_replays : List SweepPoint → List PolicyReplay → List (SweepPoint × List PolicyReplay)
+with_replays points replays = map (λ p. (p, filter (λ r. r.capacity == p.capacity) replays)) points
+
+-- the numbers of these
+abbrev pub numbers_with_replays : SweepPoint × List PolicyReplay → List ℕ
+numbers_with_replays x = point_numbers x.0 ++ flat_map replay_numbers_of x.1
+
+-- the numbers that a sweep prints
+abbrev pub sweep_numbers : SweepFacts → List SweepPoint → List PolicyReplay → List ℕ
+sweep_numbers f points replays =
+    f.requests ∷ f.objects ∷ f.dropped ∷ f.capacities ∷ f.policies ∷ f.delay ∷ flat_map numbers_with_replays (with_replays points replays)
+
+-- two sweeps with one text have the same counts of the trace, of capacities and of policies, the same delay, and the same bounds and policies at each capacity
 abbrev pub SweepsHaveOneReading : Type 0
 SweepsHaveOneReading =
-    (f g : SweepFacts) (ps qs : List SweepPoint) (c d : Counting)
-    → ArePrintable c (sweep_numbers f ps) → ArePrintable d (sweep_numbers g qs)
-    → rendered c (sweep_lines f ps) ≡ rendered d (sweep_lines g qs)
-    → (f ≡ g) × (ps ≡ qs) × (c ≡ d)
+    (f g : SweepFacts) (ps qs : List SweepPoint) (rs ss : List PolicyReplay) (c d : Counting)
+    → ArePrintable c (sweep_numbers f ps rs) → ArePrintable d (sweep_numbers g qs ss)
+    → rendered c (sweep_lines f ps rs) ≡ rendered d (sweep_lines g qs ss)
+    → (f ≡ g) × (with_replays ps rs ≡ with_replays qs ss) × (c ≡ d)

@@ -21,7 +21,7 @@ pub fn demos_have_one_reading()
     ensures { DemosHaveOneReading }
 {}
 
-/// Two sweeps with one text print the same counts and the same delay, and the same bounds at each capacity.
+/// Two sweeps with one text print the same counts and the same delay, and the same bounds and policies at each capacity.
 pub fn sweeps_have_one_reading()
     ensures { SweepsHaveOneReading }
 {}

@@ -23,6 +23,25 @@ capacity 2 bytes upper 3/1 floor 3\n",
     ..GOOD
 };
 
+// The hits of these were counted by hand.
+const POLICIES: Row<'static> = Row {
+    shows: "two policies at two capacities, in the order of their names",
+    words: "sweep t format=webcache capacities=1,2 policies=lfu,lru",
+    report: Text(
+        b"trace requests 6 objects 3 dropped 0\n\
+sweep capacities 2 policies 2\n\
+capacity 1 object upper 5/2 floor 2\n\
+capacity 1 bytes upper 5/2 floor 2\n\
+capacity 1 policy lfu hits 0 bytes 0 writes 6\n\
+capacity 1 policy lru hits 0 bytes 0 writes 6\n\
+capacity 2 object upper 3/1 floor 3\n\
+capacity 2 bytes upper 3/1 floor 3\n\
+capacity 2 policy lfu hits 2 bytes 2 writes 4\n\
+capacity 2 policy lru hits 1 bytes 1 writes 5\n",
+    ),
+    ..SIX
+};
+
 const FIRST_BOUNDS: [Row<'static>; 4] = [
     SIX,
     Row {
@@ -165,6 +184,45 @@ const REFUSED: [Row<'static>; 4] = [
         ..SIX
     },
 ];
+
+const WRONG_POLICIES: [Row<'static>; 3] = [
+    Row {
+        shows: "a policy that looks ahead",
+        words: "sweep t format=webcache capacities=1 policies=lru,belady",
+        status: Status::Words(WordFault {
+            place: 5,
+            kind: WordKind::BadValue,
+        }),
+        report: Text(b"words: place 5: bad value\n"),
+        ..SIX
+    },
+    Row {
+        shows: "a policy that is named twice",
+        words: "sweep t format=webcache capacities=1 policies=lru,fifo,lru",
+        status: Status::Words(WordFault {
+            place: 5,
+            kind: WordKind::BadValue,
+        }),
+        report: Text(b"words: place 5: bad value\n"),
+        ..SIX
+    },
+    Row {
+        shows: "policies of a curve",
+        words: "curve t format=webcache capacities=1 policies=lru",
+        status: Status::Words(WordFault {
+            place: 5,
+            kind: WordKind::Unknown,
+        }),
+        report: Text(b"words: place 5: unknown\n"),
+        ..SIX
+    },
+];
+
+#[test]
+fn policies_count_at_each_capacity(rt: HostRuntime) {
+    check_all(rt.alloc(), &[POLICIES]).expect(&rt, "a row");
+    check_all(rt.alloc(), &WRONG_POLICIES).expect(&rt, "a row");
+}
 
 #[test]
 fn sweeps_end_as_their_trace_does(rt: HostRuntime) {

@@ -1,3 +1,4 @@
 mod Tallies
 mod Pointed
+mod Within
 mod Whole

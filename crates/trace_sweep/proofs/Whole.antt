@@ -26,6 +26,7 @@ use Rattle.trace_sweep.specs.declared.tally.Tally.{Tally}
 use Rattle.trace_sweep.specs.Points.{AreSweepPoints, points_of}
 use Rattle.trace_sweep.specs.Swept.{HasSweptAll, IsNotSwept, IsSwept}
 use Rattle.trace_sweep.proofs.Pointed.{points-are}
+use Rattle.trace_sweep.proofs.Within.{all-within}
 
 -- what a stream that has read nothing refuses is what the source had left
 module _ (format : Format) (source : Device) where
@@ -71,6 +72,10 @@ module _ (format : Format) (warmup delay : ℕ) (source : Device) (new : Reader)
     counted = counted ∙ counted_is;
     late = late;
     stale = stale ∙ stale_is;
-    points = subst (AreSweepPoints warmup delay swept.trace capacities) (sym points) (points-are sweep swept.trace bounds warmup delay capacities same_warmup same_delay same_capacities are swept.seen);
+    points = points_are;
     replays = replays;
+    within = all-within format warmup delay swept.trace new.seen.noted capacities (settings_of names capacities) found.points.items found.replays.items points_are replays;
   }
+    where
+      points_are : AreSweepPoints warmup delay swept.trace capacities found.points.items
+      points_are = subst (AreSweepPoints warmup delay swept.trace capacities) (sym points) (points-are sweep swept.trace bounds warmup delay capacities same_warmup same_delay same_capacities are swept.seen)

@@ -22,7 +22,7 @@ use Rattle.policy_sweep.specs.Replays.{AreReplays}
 use Rattle.policy_stream.specs.declared.stream.PolicyStream.{PolicyStream}
 use Rattle.policy_stream.specs.Streams.{HasBeenTold, HasBegun, settings_of}
 use Rattle.trace_sweep.specs.Online.{told_of}
-use Rattle.trace_sweep.specs.Points.{AreSweepPoints}
+use Rattle.trace_sweep.specs.Points.{AreSweepPoints, AreWithin}
 use Rattle.trace_sweep.specs.declared.sweeping.Swept.{Swept}
 use Rattle.trace_sweep.specs.declared.tally.Tally.{Tally}
 
@@ -39,6 +39,7 @@ pub record IsSwept (format : Format) (capacities : List ℕ) (policies : List Po
   pub stale : swept.stale ≡ stale_in format trace notes.noted
   pub points : AreSweepPoints warmup delay trace capacities swept.points.items
   pub replays : AreReplays (told_of format warmup trace notes.noted) (settings_of policies capacities) swept.replays.items
+  pub within : AreWithin swept.points.items swept.replays.items
 
 -- what the source had left is refused so within the limits of one pass, and little was lost beyond what refuses it; or a read failed, or memory ran out
 abbrev pub IsNotSwept : Format → Device → TraceFault → Type 0

@@ -19,7 +19,7 @@ use crate::telling::tell;
 use bound_io::Source;
 use policy_model::PolicyName;
 use policy_stream::{PolicyStream, Request};
-use replay_core::Replay;
+use policy_sweep::PolicyReplay;
 use std::alloc::Global;
 use sweep_bounds::SweepBounds;
 use trace_any::{Format, Limits, RequestStream, TraceFault};
@@ -37,7 +37,7 @@ pub struct Swept {
     pub late: u64,
     pub stale: Option<u32>,
     pub points: Vec<SweepPoint>,
-    pub replays: Vec<Replay>,
+    pub replays: Vec<PolicyReplay>,
 }
 
 // Tells the bounds and the policies each request that the stream has to give.

@@ -1,4 +1,4 @@
-use Rattle.std.proofs.Common.{◌∙◌, ap, sym, Some}
+use Rattle.std.proofs.Common.{◌∙◌, ap, sym, refl, Some}
 use Rattle.replay_core.specs.Keeping.{Kept, contents_of, state_of}
 use Rattle.any_policy.specs.Any.{kept_of}
 use Rattle.policy_sweep.specs.Running.{replaying}
@@ -12,6 +12,8 @@ returns c = λ told.
       rule = name;
       capacity_is = ap (λ (k : Kept). k.capacity) kept;
       objects_are = ap (λ (k : Kept). k.objects) kept;
-      replayed = c.begin-counts.ensures (replaying told c.args.name c.args.capacity) (sym (ap (λ (k : Kept). k.capacity) kept))
+      replayed = c.begin.ensures (replaying told c.args.name c.args.capacity) (sym (ap (λ (k : Kept). k.capacity) kept))
           (sym (ap (λ n. Some (state_of n (kept_of c.in_ok-policy.policy))) name ∙ ap (λ k. Some (state_of c.args.name k)) kept)) (ap contents_of kept);
+      named = refl;
+      sized = refl;
     }

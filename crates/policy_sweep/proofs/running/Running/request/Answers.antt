@@ -35,5 +35,7 @@ returns c = record {
         capacity_is = c.step.ensures.same_capacity ∙ so_far.capacity_is;
         objects_are = c.step.ensures.same_objects ∙ so_far.objects_are;
         replayed = after;
+        named = so_far.named;
+        sized = so_far.sized;
       };
 }
