@@ -53,10 +53,14 @@ fn move_to_front(bytes: &mut Vec<u8>, start: usize, end: usize) -> usize
     ensures moved { take (end - start) bytes.new.items ≡ take (end - start) (drop start bytes.old.items) }
     ensures len { vec_len bytes.new ≡ vec_len bytes.old }
 {
-    if start > 0 {
+    let count = end - start;
+    if count <= start {
+        let (front, held) = bytes.split_at_mut(start);
+        front[..count].copy_from_slice(&held[..count]);
+    } else if start > 0 {
         bytes.copy_within(start..end, 0);
     }
-    end - start
+    count
 }
 
 impl Buffer {

@@ -1,17 +1,18 @@
 -- A ring of linked nodes, as one is taken out, and what is known of it by the value of its line.
-use Rattle.std.proofs.Common.{◌≡◌, ℕ, ◌+◌, ◌-◌, ◌<◌, ◌≤◌, ◌∙◌, sym, refl, ap, subst, Bool, true, false, not, ◌||◌, cond, eqb, List, [], ◌∷◌, ◌++◌, length, filter, get_or, arith, sum_by}
+use Rattle.std.proofs.Common.{◌≡◌, ℕ, ◌+◌, ◌-◌, ◌<◌, ◌≤◌, ◌∙◌, sym, refl, ap, subst, Bool, true, false, not, ◌||◌, cond, eqb, List, [], ◌∷◌, ◌++◌, length, filter, arith, sum_by}
 use Rattle.std.specs.List.{AllByRecursion, IsDistinct, list_any}
-use Rattle.std.proofs.lemmas.Bool.{eqb-true, or_parts, or_from, cond_both}
+use Rattle.std.proofs.lemmas.Bool.{eqb-true, eq-eqb, or_left, or_right, or_parts, or_from, cond_both}
 use Rattle.std.proofs.lemmas.Map.Steps.{length-le_from_distinct_below}
-use Rattle.std.proofs.lemmas.List.{get_or_read}
+use Rattle.std.proofs.lemmas.List.{length-map}
 use Rattle.std.proofs.lemmas.List.Sums.{sum_by-cons}
 use Rattle.policy_model.specs.States.{Member, member, members_size, has_member}
 use Rattle.policy_model.proofs.Comparisons.{eqb-sym}
 use Rattle.cache_model.proofs.Eligible.{or_false}
-use Rattle.replay_queues.specs.declared.nodes.Node.{Node}
+use Rattle.linked_nodes.specs.declared.nodes.Node.{Node}
 use Rattle.replay_queues.specs.Lines.{Lined}
-use Rattle.replay_queues.specs.Rings.{node_at, is_among, Distinct, Links, Joins, walk, ring_of, members_at, ring_members, IsRing}
-use Rattle.replay_queues.proofs.RingLemmas.{after, before, without, without-none, last-beside, before-among, after-among, taken_out, walked, length-walk}
+use Rattle.linked_nodes.specs.Nodes.{node_at, Enters, IsThere, Joins, Leaves}
+use Rattle.replay_queues.specs.Rings.{is_among, Distinct, Links, walk, ring_of, members_at, ring_members, IsRing}
+use Rattle.replay_queues.proofs.RingLemmas.{after, before, without, without-none, last-beside, before-among, after-among, taken_out, walked, length-walk, Links-but}
 
 abbrev pub size_at : List Node → ℕ → ℕ
 size_at nodes k = (node_at nodes k).size
@@ -58,6 +59,14 @@ pub distinct-without : (k : ℕ) (numbers : List ℕ) → Distinct numbers → D
 distinct-without k [] apart = tt
 distinct-without k (j ∷ rest) apart =
     cond_both (not (eqb j k)) (j ∷ without k rest) (without k rest) Distinct (λ _. (less-among k j rest apart.0, distinct-without k rest apart.1)) (λ _. distinct-without k rest apart.1)
+
+pub without-gone : (k : ℕ) (numbers : List ℕ) → is_among (without k numbers) k ≡ false
+without-gone k [] = refl
+without-gone k (j ∷ rest) = at (eqb j k) refl (without-gone k rest)
+  where
+    at : (t : Bool) → eqb j k ≡ t → is_among (without k rest) k ≡ false → is_among (cond (not (eqb j k)) (j ∷ without k rest) (without k rest)) k ≡ false
+    at true e more = ap (λ t. is_among (cond (not t) (j ∷ without k rest) (without k rest)) k) e ∙ more
+    at false e more = ap (λ t. is_among (cond (not t) (j ∷ without k rest) (without k rest)) k) e ∙ or_from (eqb j k) (is_among (without k rest) k) e more
 
 -- a sum loses its part
 pub sum-without : (f : ℕ → ℕ) (k : ℕ) (numbers : List ℕ) → Distinct numbers → is_among numbers k ≡ true → sum_by f (without k numbers) + f k ≡ sum_by f numbers
@@ -130,7 +139,7 @@ module _ (nodes : List Node) (none count : ℕ) (numbers : List ℕ) (linked : L
   pub ring-is : ring_of nodes none count ≡ numbers
   ring-is = ap (λ n. walk nodes n (after nodes none)) (sym counted) ∙ walked nodes none numbers none linked
 
-  pub ring-made : length nodes ≡ none + 1 → Distinct numbers → ((k : ℕ) → is_among numbers k ≡ true → k < none) → IsRing nodes none count
+  pub ring-made : length nodes ≡ none + 3 → Distinct numbers → ((k : ℕ) → is_among numbers k ≡ true → k < none) → IsRing nodes none count
   ring-made each apart below = record {
     each_node = each;
     linked = subst (λ js. Links nodes none js none) (sym ring-is) linked;
@@ -183,38 +192,98 @@ module _ (old : List Node) (none count k : ℕ) (ring : IsRing old none count) (
   pub less-count : length (without k all_of) + 1 ≡ count
   less-count = omega (arith, sum-without (λ (j : ℕ). 1) k all_of ring.apart there, ones all_of, ones (without k all_of), length-walk old count (after old none))
 
-  module _ (new : List Node) (joins : Joins old new (before old k) (after old k)) where
+  module _ (joined new : List Node) (joins : Joins old joined (before old k) (after old k)) (leaves : Leaves joined new k) where
+    none_other : eqb none k ≡ false
+    none_other = at (eqb none k) refl
+      where
+        at : (t : Bool) → eqb none k ≡ t → eqb none k ≡ false
+        at true e = let clash : true ≡ false = sym there ∙ ap (is_among all_of) (sym (eqb-true none k e)) ∙ none_apart old none count ring in cc
+        at false e = e
+
     less-links : Links new none (without k all_of) none
-    less-links = taken_out old new k none all_of none joins ring.apart there (none_apart old none count ring) (none_apart old none count ring) ring.linked
+    less-links =
+        Links-but joined new k leaves.others_stay none (without k all_of) none none_other (without-gone k all_of) none_other
+        (taken_out old joined k none all_of none joins ring.apart there (none_apart old none count ring) (none_apart old none count ring) ring.linked)
 
     less-members : members_at new (without k all_of) ≡ filter (λ m. not (eqb m.object k)) (members_at old all_of)
-    less-members = members-same old new joins.sizes_stay (without k all_of) ∙ sym (members-without old k all_of)
+    less-members =
+        members-but joined new k (λ j apart. ap (λ (n : Node). n.size) (leaves.others_stay j apart)) (without k all_of) (without-gone k all_of)
+        ∙ members-same old joined joins.sizes_stay (without k all_of) ∙ sym (members-without old k all_of)
 
     less-counted : length (without k all_of) ≡ count - 1
     less-counted = omega (arith, less-count)
 
     pub less-ring : IsRing new none (count - 1)
     less-ring =
-        ring-made new none (count - 1) (without k all_of) less-links less-counted (joins.nodes_stay ∙ ring.each_node) (distinct-without k all_of ring.apart)
+        ring-made new none (count - 1) (without k all_of) less-links less-counted (leaves.nodes_stay ∙ joins.nodes_stay ∙ ring.each_node) (distinct-without k all_of ring.apart)
         (λ q h. ring.below q (more-among k q all_of h))
 
     pub less-members-are : ring_members new none (count - 1) ≡ filter (λ m. not (eqb m.object k)) (ring_members old none count)
     less-members-are = ap (members_at new) (ring-is new none (count - 1) (without k all_of) less-links less-counted) ∙ less-members
 
--- ---- what is known of a line by its value
-pub node_read : (nodes : List Node) (k : ℕ) (n : Node) → k < length nodes → n ≡ get_or nodes k n → n ≡ node_at nodes k
-node_read nodes k n within read = get_or_read nodes k n within read (record { before = 0; after = 0; size = 0 })
+pub members-length : (nodes : List Node) (none count : ℕ) → length (ring_members nodes none count) ≡ count
+members-length nodes none count = length-map (ring_of nodes none count) (λ j. member j (node_at nodes j).size) ∙ length-walk nodes count (after nodes none)
 
-module _ (nodes : List Node) (none count : ℕ) (old : Lined) (ring : IsRing nodes none count) (view : record { objects = none; members = ring_members nodes none count } ≡ old) (k : ℕ) where
+-- ---- what is known of a line by its value
+module _ (nodes : List Node) (none count room : ℕ) (old : Lined) (ring : IsRing nodes none count) (view : record { objects = none; members = ring_members nodes none count; room = room } ≡ old) (k : ℕ) where
   pub view-below : k < old.objects → k < none
   view-below low = subst (λ (g : Lined). k < g.objects) (sym view) low
 
   pub view-among : (t : Bool) → has_member old.members k ≡ t → is_among (ring_of nodes none count) k ≡ t
   view-among t is = sym (member-among nodes none count ring k) ∙ ap (λ (g : Lined). has_member g.members k) view ∙ is
 
--- one of them has a node
-pub node_within : (nodes : List Node) (none count k : ℕ) → IsRing nodes none count → is_among (ring_of nodes none count) k ≡ true → k < length nodes
-node_within nodes none count k ring there =
-    let low : k < none = ring.below k there in
-    let each : length nodes ≡ none + 1 = ring.each_node in
-    omega arith
+  -- as many members as the ring has
+  pub view-length : length old.members ≡ count
+  view-length = ap (λ (g : Lined). length g.members) (sym view) ∙ members-length nodes none count
+
+-- ---- which nodes are there
+module _ (nodes : List Node) (none count : ℕ) (ring : IsRing nodes none count) where
+  first-within : after nodes none < none + 1
+  first-within = at (ring_of nodes none count) ring.linked ring.below
+    where
+      at : (numbers : List ℕ) → Links nodes none numbers none → ((k : ℕ) → is_among numbers k ≡ true → k < none) → after nodes none < none + 1
+      at [] linked below = let is : after nodes none ≡ none = linked.0 in omega arith
+      at (j ∷ rest) linked below =
+          let is : after nodes none ≡ j = linked.0 in
+          let low : j < none = below j (or_left (eqb j j) (is_among rest j) (eq-eqb j j refl)) in
+          omega arith
+
+  -- those of the ring and the one for none
+  pub ring-there : (k : ℕ) → is_among (none ∷ ring_of nodes none count) k ≡ true → IsThere nodes k
+  ring-there k there = (let each : length nodes ≡ none + 3 = ring.each_node in let low : k < none + 1 = beside nodes none count ring k there in omega arith, at (eqb none k) refl)
+    where
+      at : (t : Bool) → eqb none k ≡ t → after nodes k < length nodes
+      at true e =
+          let each : length nodes ≡ none + 3 = ring.each_node in
+          let low : after nodes k < none + 1 = subst (λ j. after nodes j < none + 1) (eqb-true none k e) first-within in
+          omega arith
+      at false e =
+          let each : length nodes ≡ none + 3 = ring.each_node in
+          let low : after nodes k < none + 1 = after-within nodes none count ring k (ap (λ t. t || is_among (ring_of nodes none count) k) (sym e) ∙ there) in
+          omega arith
+
+  pub among-there : (k : ℕ) → is_among (ring_of nodes none count) k ≡ true → IsThere nodes k
+  among-there k there = ring-there k (or_right (eqb none k) (is_among (ring_of nodes none count) k) there)
+
+-- a join leaves them there
+pub joins-there : (old new : List Node) (b a : ℕ) → Joins old new b a → a < length old → (k : ℕ) → IsThere old k → IsThere new k
+joins-there old new b a joins low k there = (
+  let same : length new ≡ length old = joins.nodes_stay in let within : k < length old = there.0 in omega arith,
+  let same : length new ≡ length old = joins.nodes_stay in
+      let is : after new k ≡ cond (eqb k b) a (after old k) = joins.follows k in
+      let within : cond (eqb k b) a (after old k) < length old = cond_both (eqb k b) a (after old k) (λ x. x < length old) (λ _. low) (λ _. there.1) in
+      omega arith,
+)
+
+-- and so does one that comes
+pub enters-there : (old new : List Node) (object size : ℕ) → Enters old new object size → (k : ℕ) → IsThere old k → IsThere new k
+enters-there old new object size enters k there = at (eqb k object) refl
+  where
+    at : (t : Bool) → eqb k object ≡ t → IsThere new k
+    at true e = subst (IsThere new) (sym (eqb-true k object e)) enters.there
+    at false e =
+        let same : length new ≡ length old = enters.nodes_stay in
+        let is : after new k ≡ after old k = ap (λ (n : Node). n.after) (enters.others_stay k e) in
+        let within : k < length old = there.0 in
+        let low : after old k < length old = there.1 in
+        (omega arith, omega arith)

@@ -8,7 +8,7 @@ use Rattle.policy_model.specs.States.{Member, Entry, has_member, members_size}
 use Rattle.policy_model.specs.Steps.{without_entry}
 use Rattle.policy_model.specs.Leaving.{without_member}
 use Rattle.policy_model.proofs.Comparisons.{eqb-sym}
-use Rattle.replay_queues.specs.declared.nodes.Node.{Node}
+use Rattle.linked_nodes.specs.declared.nodes.Node.{Node}
 use Rattle.replay_queues.specs.Items.{has_item, items_of, entries_by}
 use Rattle.replay_queues.specs.Lines.{before_object, from_object, first_of}
 use Rattle.replay_queues.specs.Rings.{is_among, Links, members_at}

@@ -37,7 +37,7 @@ module _ (q : Parted) (once : Once (q.small ++ (q.main ++ q.ghosts))) (k size : 
       ∙ or_from _ _ (has_member-gone k q.small) (or_from _ _ (has_member-gone k q.main) (has_member-gone k q.ghosts))
 
   abbrev of : List Member → List Member → List Member → Parted
-  of x y z = record { objects = q.objects; small = x; main = y; ghosts = z }
+  of x y z = record { objects = q.objects; small = x; main = y; ghosts = z; room = q.room }
 
   -- what is left of a part that it was the first of
   head-gone : (x : Member) (rest ms : List Member) → ms ≡ x ∷ rest → x.object ≡ k → has_member rest k ≡ false → without_member k ms ≡ rest

@@ -1,14 +1,14 @@
 -- The three parts of a line, as objects come and leave.
-use Rattle.std.proofs.Common.{◌≡◌, ℕ, ◌<◌, ◌∙◌, sym, refl, ap, subst, Bool, true, false, not, ◌||◌, cond, eqb, List, [], ◌∷◌, ◌++◌, length, drop, get_or, set, append_assoc, arith}
+use Rattle.std.proofs.Common.{◌≡◌, ℕ, ◌+◌, ◌<◌, ◌∙◌, sym, refl, ap, subst, Bool, true, false, not, ◌||◌, cond, eqb, List, [], ◌∷◌, ◌++◌, length, length-append, drop, get_or, set, append_assoc, arith}
 use Rattle.std.proofs.lemmas.Bool.{eqb-true, eq-eqb, ne_eqb, or_parts, or_from, or_right, cond_both}
-use Rattle.std.proofs.lemmas.List.{append-nil, length-set}
+use Rattle.std.proofs.lemmas.List.{append-nil, length-set, length_push}
 use Rattle.std.proofs.lemmas.List.Sums.{sum_by-append}
 use Rattle.policy_model.specs.States.{Member, member, has_member, members_size}
 use Rattle.policy_model.specs.Leaving.{without_member}
 use Rattle.policy_model.proofs.Comparisons.{eqb-sym}
 use Rattle.cache_model.proofs.Eligible.{or_false}
 use Rattle.replay_queues.specs.Lines.{Lined, before_object, from_object, first_of}
-use Rattle.replay_queues.specs.ThreeParts.{Parted, has_part, parts_without, parts_size, parts_of, Once, begin_but, IsParts}
+use Rattle.replay_queues.specs.ThreeParts.{Parted, has_part, parts_without, parts_size, parts_count, parts_of, Once, begin_but, IsParts}
 use Rattle.replay_queues.proofs.ItemLemmas.{here, other}
 use Rattle.replay_queues.proofs.LineLemmas.{parts-are, cuts-here, members-but-none, members-but-append, has_member-append, has_member-gone, has_member-others}
 
@@ -75,9 +75,9 @@ module _ (l : Lined) (main ghosts : ℕ) (s m g : List Member) (line : l.members
   second-cut : (before_object ghosts (m ++ g) ≡ m) × (from_object ghosts (m ++ g) ≡ g)
   second-cut = cuts-here l.objects ghosts g (sym ghosts_is) m main-apart
 
-  pub cut-parts : parts_of l main ghosts ≡ record { objects = l.objects; small = s; main = m; ghosts = g }
+  pub cut-parts : parts_of l main ghosts ≡ record { objects = l.objects; small = s; main = m; ghosts = g; room = l.room }
   cut-parts =
-      let of : List Member → List Member → List Member → Parted = λ x y z. record { objects = l.objects; small = x; main = y; ghosts = z } in
+      let of : List Member → List Member → List Member → Parted = λ x y z. record { objects = l.objects; small = x; main = y; ghosts = z; room = l.room } in
       ap (λ x. of x (before_object ghosts (from_object main l.members)) (from_object ghosts (from_object main l.members))) first-cut.0
       ∙ ap (λ ms. of s (before_object ghosts ms) (from_object ghosts ms)) first-cut.1
       ∙ ap (λ y. of s y (from_object ghosts (m ++ g))) second-cut.0 ∙ ap (of s m) second-cut.1
@@ -159,7 +159,7 @@ module _ (l : Lined) (main ghosts : ℕ) (places : List ℕ) (is : IsParts l mai
   ghosts-begin = is.ghosts_is ∙ ap (first_of l.objects) (sym ghosts-cut.1)
 
   -- ---- one leaves
-  module _ (k : ℕ) (new : Lined) (members : new.members ≡ without_member k l.members) (objects : new.objects ≡ l.objects) (main_after ghosts_after : ℕ) (main_is : main_after ≡ begin_but l main k) (ghosts_is : ghosts_after ≡ begin_but l ghosts k) where
+  module _ (k : ℕ) (new : Lined) (members : new.members ≡ without_member k l.members) (objects : new.objects ≡ l.objects) (room : new.room ≡ l.room) (main_after ghosts_after : ℕ) (main_is : main_after ≡ begin_but l main k) (ghosts_is : ghosts_after ≡ begin_but l ghosts k) where
     left-line : new.members ≡ without_member k q.small ++ (without_member k q.main ++ without_member k q.ghosts)
     left-line =
         members ∙ ap (without_member k) line-parts ∙ members-but-append k q.small (q.main ++ q.ghosts) ∙ ap (λ ms. without_member k q.small ++ ms) (members-but-append k q.main q.ghosts)
@@ -183,7 +183,8 @@ module _ (l : Lined) (main ghosts : ℕ) (places : List ℕ) (is : IsParts l mai
     pub left-parts : parts_of new main_after ghosts_after ≡ parts_without k q
     left-parts =
         cut-parts new main_after ghosts_after (without_member k q.small) (without_member k q.main) (without_member k q.ghosts) left-line left-once left-none left-main left-ghosts
-        ∙ ap (λ n. record { objects = n; small = without_member k q.small; main = without_member k q.main; ghosts = without_member k q.ghosts }) objects
+        ∙ ap (λ n. record { objects = n; small = without_member k q.small; main = without_member k q.main; ghosts = without_member k q.ghosts; room = new.room }) objects
+        ∙ ap (λ r. record { objects = l.objects; small = without_member k q.small; main = without_member k q.main; ghosts = without_member k q.ghosts; room = r }) room
 
     pub left-are : k < length places → IsParts new main_after ghosts_after (set places k 0)
     left-are within =
@@ -214,7 +215,7 @@ module _ (l : Lined) (main ghosts : ℕ) (places : List ℕ) (is : IsParts l mai
           ∙ or_from (eqb k l.objects) (has_member (b ++ a) l.objects) not_none (ap (λ ms. has_member ms l.objects) (sym parts) ∙ is.none_apart)
 
     -- at the back of the small queue
-    module _ (new : Lined) (objects : new.objects ≡ l.objects) (members : new.members ≡ before_object main l.members ++ x ∷ from_object main l.members) where
+    module _ (new : Lined) (objects : new.objects ≡ l.objects) (room : new.room ≡ l.room) (members : new.members ≡ before_object main l.members ++ x ∷ from_object main l.members) where
       small-line : new.members ≡ (q.small ++ x ∷ []) ++ (q.main ++ q.ghosts)
       small-line = members ∙ ap (λ ms. q.small ++ x ∷ ms) later-parts ∙ sym (append_assoc q.small (x ∷ []) (q.main ++ q.ghosts))
 
@@ -233,7 +234,8 @@ module _ (l : Lined) (main ghosts : ℕ) (places : List ℕ) (is : IsParts l mai
       pub pushed-small : parts_of new main ghosts ≡ record q { small = q.small ++ x ∷ [] }
       pushed-small =
           cut-parts new main ghosts (q.small ++ x ∷ []) q.main q.ghosts small-line small-once small-none small-main small-ghosts
-          ∙ ap (λ n. record { objects = n; small = q.small ++ x ∷ []; main = q.main; ghosts = q.ghosts }) objects
+          ∙ ap (λ n. record { objects = n; small = q.small ++ x ∷ []; main = q.main; ghosts = q.ghosts; room = new.room }) objects
+          ∙ ap (λ r. record { objects = l.objects; small = q.small ++ x ∷ []; main = q.main; ghosts = q.ghosts; room = r }) room
 
       pub pushed-small-are : IsParts new main ghosts (set places k 1)
       pushed-small-are =
@@ -259,7 +261,7 @@ module _ (l : Lined) (main ghosts : ℕ) (places : List ℕ) (is : IsParts l mai
     same_places new objects = is.each_object ∙ sym objects
 
     -- at the back of the main queue
-    module _ (new : Lined) (objects : new.objects ≡ l.objects) (members : new.members ≡ before_object ghosts l.members ++ x ∷ from_object ghosts l.members) (main_after : ℕ) (main_is : main_after ≡ cond (eqb main ghosts) k main) where
+    module _ (new : Lined) (objects : new.objects ≡ l.objects) (room : new.room ≡ l.room) (members : new.members ≡ before_object ghosts l.members ++ x ∷ from_object ghosts l.members) (main_after : ℕ) (main_is : main_after ≡ cond (eqb main ghosts) k main) where
       main-line : new.members ≡ q.small ++ ((q.main ++ x ∷ []) ++ q.ghosts)
       main-line =
           members ∙ ap (λ ms. ms ++ x ∷ from_object ghosts l.members) ghosts-cut.0 ∙ ap (λ ms. (q.small ++ q.main) ++ x ∷ ms) ghosts-cut.1
@@ -285,14 +287,15 @@ module _ (l : Lined) (main ghosts : ℕ) (places : List ℕ) (is : IsParts l mai
       pub pushed-main : parts_of new main_after ghosts ≡ record q { main = q.main ++ x ∷ [] }
       pushed-main =
           cut-parts new main_after ghosts q.small (q.main ++ x ∷ []) q.ghosts main-line main-once main-none main-begins main-ghosts
-          ∙ ap (λ n. record { objects = n; small = q.small; main = q.main ++ x ∷ []; ghosts = q.ghosts }) objects
+          ∙ ap (λ n. record { objects = n; small = q.small; main = q.main ++ x ∷ []; ghosts = q.ghosts; room = new.room }) objects
+          ∙ ap (λ r. record { objects = l.objects; small = q.small; main = q.main ++ x ∷ []; ghosts = q.ghosts; room = r }) room
 
       pub pushed-main-are : IsParts new main_after ghosts places
       pushed-main-are =
           are-parts new main_after ghosts q.small (q.main ++ x ∷ []) q.ghosts main-line main-once main-none main-begins main-ghosts places (same_places new objects) is.small_is
 
     -- at the back of the ghosts
-    module _ (new : Lined) (objects : new.objects ≡ l.objects) (members : new.members ≡ l.members ++ x ∷ []) (main_after ghosts_after : ℕ) (main_is : main_after ≡ cond (eqb main l.objects) k main) (ghosts_is : ghosts_after ≡ cond (eqb ghosts l.objects) k ghosts) where
+    module _ (new : Lined) (objects : new.objects ≡ l.objects) (room : new.room ≡ l.room) (members : new.members ≡ l.members ++ x ∷ []) (main_after ghosts_after : ℕ) (main_is : main_after ≡ cond (eqb main l.objects) k main) (ghosts_is : ghosts_after ≡ cond (eqb ghosts l.objects) k ghosts) where
       ghost-line : new.members ≡ q.small ++ (q.main ++ (q.ghosts ++ x ∷ []))
       ghost-line =
           members ∙ ap (λ ms. ms ++ x ∷ []) line-parts ∙ append_assoc q.small (q.main ++ q.ghosts) (x ∷ []) ∙ ap (λ ms. q.small ++ ms) (append_assoc q.main q.ghosts (x ∷ []))
@@ -323,8 +326,26 @@ module _ (l : Lined) (main ghosts : ℕ) (places : List ℕ) (is : IsParts l mai
       pub pushed-ghost : parts_of new main_after ghosts_after ≡ record q { ghosts = q.ghosts ++ x ∷ [] }
       pushed-ghost =
           cut-parts new main_after ghosts_after q.small q.main (q.ghosts ++ x ∷ []) ghost-line ghost-once ghost-none ghost-main ghost-ghosts
-          ∙ ap (λ n. record { objects = n; small = q.small; main = q.main; ghosts = q.ghosts ++ x ∷ [] }) objects
+          ∙ ap (λ n. record { objects = n; small = q.small; main = q.main; ghosts = q.ghosts ++ x ∷ []; room = new.room }) objects
+          ∙ ap (λ r. record { objects = l.objects; small = q.small; main = q.main; ghosts = q.ghosts ++ x ∷ []; room = r }) room
 
       pub pushed-ghost-are : IsParts new main_after ghosts_after places
       pushed-ghost-are =
           are-parts new main_after ghosts_after q.small q.main (q.ghosts ++ x ∷ []) ghost-line ghost-once ghost-none ghost-main ghost-ghosts places (same_places new objects) is.small_is
+
+-- ---- how many members there are
+pub count-cut : (l : Lined) (main ghosts : ℕ) → parts_count (parts_of l main ghosts) ≡ length l.members
+count-cut l main ghosts =
+    omega (
+      arith,
+      ap length (parts-are main l.members),
+      length-append (before_object main l.members) (from_object main l.members),
+      ap length (parts-are ghosts (from_object main l.members)),
+      length-append (before_object ghosts (from_object main l.members)) (from_object ghosts (from_object main l.members)),
+    )
+
+pub count-main : (q : Parted) (m : Member) → parts_count (record q { main = q.main ++ m ∷ [] }) ≡ parts_count q + 1
+count-main q m = omega (arith, length_push q.main m)
+
+pub count-ghosts : (q : Parted) (m : Member) → parts_count (record q { ghosts = q.ghosts ++ m ∷ [] }) ≡ parts_count q + 1
+count-ghosts q m = omega (arith, length_push q.ghosts m)

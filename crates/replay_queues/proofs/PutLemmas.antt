@@ -4,11 +4,12 @@ use Rattle.std.proofs.lemmas.Bool.{eqb-true, eq-eqb, ne_eqb, or_parts, or_from, 
 use Rattle.std.proofs.lemmas.List.{length-append, map-append, append-nil}
 use Rattle.policy_model.specs.States.{Member, member, has_member}
 use Rattle.policy_model.proofs.Comparisons.{eqb-sym}
-use Rattle.replay_queues.specs.declared.nodes.Node.{Node}
+use Rattle.linked_nodes.specs.declared.nodes.Node.{Node}
 use Rattle.replay_queues.specs.Lines.{Lined, before_object, from_object, first_of}
-use Rattle.replay_queues.specs.Rings.{is_among, Distinct, Links, Joins, Notes, ring_of, members_at, ring_members, IsRing}
-use Rattle.replay_queues.proofs.RingLemmas.{after, before, differs, Links-same, Links-other, last-beside, takes_last, goes_on, length-walk}
-use Rattle.replay_queues.proofs.GhostAnswers.{size_at, members-but, ring-is, ring-made, none_apart, beside, last-within, before-within}
+use Rattle.linked_nodes.specs.Nodes.{node_at, Enters, IsThere, Joins}
+use Rattle.replay_queues.specs.Rings.{is_among, Distinct, Links, ring_of, members_at, ring_members, IsRing}
+use Rattle.replay_queues.proofs.RingLemmas.{after, before, before-among, differs, Links-but, Links-other, last-beside, takes_last, goes_on, length-walk}
+use Rattle.replay_queues.proofs.GhostAnswers.{size_at, members-but, ring-is, ring-made, none_apart, enters-there, ring-there}
 
 -- ---- the numbers before one, and those from it on
 abbrev pub numbers_before : ℕ → List ℕ → List ℕ
@@ -98,7 +99,7 @@ join-links : (nodes : List Node) (first : ℕ) (xs : List ℕ) (y : ℕ) (ys : L
 join-links nodes first [] y ys last front back = (front.0, front.1, back)
 join-links nodes first (x ∷ xs) y ys last front back = (front.0, front.1, join-links nodes x xs y ys last front.2 back)
 
-module _ (old noted mid new : List Node) (none k size : ℕ) (notes : Notes old noted k size) (other : eqb none k ≡ false) where
+module _ (old noted mid new : List Node) (none k size : ℕ) (enters : Enters old noted k size) (other : eqb none k ≡ false) where
   -- between the first part and a number
   put-front : (x : ℕ) (xs : List ℕ) → Joins noted mid (before noted x) k → Joins mid new k x → Links noted none xs x → Distinct xs → is_among xs none ≡ false → is_among xs k ≡ false → is_among xs x ≡ false → eqb x k ≡ false
       → Links new none (xs ++ k ∷ []) x
@@ -110,10 +111,10 @@ module _ (old noted mid new : List Node) (none k size : ℕ) (notes : Notes old 
   put-links x xs [] is first_join second_join linked apart no_none no_k =
       let all : xs ++ [] ≡ xs = append-nil xs in
       put-front none xs (subst (λ j. Joins noted mid (before noted j) k) is first_join) (subst (Joins mid new k) is second_join)
-      (Links-same old noted notes.follow_stay notes.before_stay none xs none (subst (λ js. Links old none js none) all linked)) (subst Distinct all apart)
+      (Links-but old noted k enters.others_stay none xs none other (ap (λ js. is_among js k) (sym all) ∙ no_k) other (subst (λ js. Links old none js none) all linked)) (subst Distinct all apart)
       (ap (λ js. is_among js none) (sym all) ∙ no_none) (ap (λ js. is_among js k) (sym all) ∙ no_k) (ap (λ js. is_among js none) (sym all) ∙ no_none) other
   put-links x xs (y ∷ ys) is first_join second_join linked apart no_none no_k =
-      let noted_links : Links noted none (xs ++ y ∷ ys) none = Links-same old noted notes.follow_stay notes.before_stay none (xs ++ y ∷ ys) none linked in
+      let noted_links : Links noted none (xs ++ y ∷ ys) none = Links-but old noted k enters.others_stay none (xs ++ y ∷ ys) none other no_k other linked in
       let parts : Links noted none xs y × Links noted y ys none = split-links noted none xs y ys none noted_links in
       let first : Joins noted mid (before noted y) k = subst (λ j. Joins noted mid (before noted j) k) is first_join in
       let second : Joins mid new k y = subst (Joins mid new k) is second_join in
@@ -146,7 +147,7 @@ module _ (nodes : List Node) (none count x : ℕ) (ring : IsRing nodes none coun
   abbrev ring_all : List ℕ
   ring_all = ring_of nodes none count
 
-  next-among : is_among (none ∷ ring_all) x ≡ true
+  pub next-among : is_among (none ∷ ring_all) x ≡ true
   next-among = at (numbers_from x ring_all) refl
     where
       first_is : x ≡ first_of none (members_at nodes (numbers_from x ring_all))
@@ -160,19 +161,46 @@ module _ (nodes : List Node) (none count x : ℕ) (ring : IsRing nodes none coun
           ∙ or_right (is_among (numbers_before x ring_all) x) (is_among (numbers_from x ring_all) x)
           (ap (λ l. is_among l x) e ∙ or_left (eqb y x) (is_among js x) (eq-eqb y x (sym (first_is ∙ ap (λ is. first_of none (members_at nodes is)) e)))))
 
-  pub next-within : x < none + 1
-  next-within = beside nodes none count ring x next-among
-
-  pub before-next-within : before nodes x < none + 1
-  before-next-within = at (eqb none x) refl
+  pub before-there : IsThere nodes (before nodes x)
+  before-there = at (eqb none x) refl
     where
-      at : (t : Bool) → eqb none x ≡ t → before nodes x < none + 1
-      at true e = subst (λ j. before nodes j < none + 1) (eqb-true none x e) (last-within nodes none count ring)
-      at false e = before-within nodes none count ring x (ap (λ t. t || is_among ring_all x) (sym e) ∙ next-among)
+      at : (t : Bool) → eqb none x ≡ t → IsThere nodes (before nodes x)
+      at true e = subst (λ j. IsThere nodes (before nodes j)) (eqb-true none x e) (ring-there nodes none count ring (before nodes none) (last-beside nodes none ring_all none ring.linked))
+      at false e =
+          ring-there nodes none count ring (before nodes x)
+          (before-among nodes none ring_all none x ring.linked (ap (λ t. t || is_among ring_all x) (sym e) ∙ next-among))
+
+  -- it is another than one that is absent
+  pub next-other : (k : ℕ) → k < none → is_among ring_all k ≡ false → eqb x k ≡ false
+  next-other k low absent = at (eqb x k) refl
+    where
+      at : (t : Bool) → eqb x k ≡ t → eqb x k ≡ false
+      at true e =
+          let same : x ≡ k = eqb-true x k e in
+          let there : is_among (none ∷ ring_all) k ≡ true = ap (is_among (none ∷ ring_all)) (sym same) ∙ next-among in
+          let apart : is_among (none ∷ ring_all) k ≡ false = or_from (eqb none k) (is_among ring_all k) (ne_eqb none k (λ (s : none ≡ k). absurd (omega arith))) absent in
+          let clash : true ≡ false = sym there ∙ apart in
+          cc
+      at false e = e
+
+-- ---- the nodes beside it, once it has one itself
+module _ (old entered : List Node) (none count k size x : ℕ) (ring : IsRing old none count) (low : k < none) (absent : is_among (ring_of old none count) k ≡ false) (is : x ≡ first_of none (from_object x (ring_members old none count)))
+    (enters : Enters old entered k size) where
+  pub next-there : IsThere entered x
+  next-there = enters-there old entered k size enters x (ring-there old none count ring x (next-among old none count x ring is))
+
+  module _ (n : Node) (read : n ≡ node_at entered x) where
+    pub last-is : n.before ≡ before entered x
+    last-is = ap (λ (m : Node). m.before) read
+
+    pub last-there : IsThere entered n.before
+    last-there =
+        enters-there old entered k size enters n.before
+        (subst (IsThere old) (sym (ap (λ (m : Node). m.before) (read ∙ enters.others_stay x (next-other old none count x ring is k low absent)))) (before-there old none count x ring is))
 
 -- ---- one is put in
 module _ (old noted mid new : List Node) (none count k size x : ℕ) (ring : IsRing old none count) (within : k < none) (absent : is_among (ring_of old none count) k ≡ false) (is : x ≡ first_of none (from_object x (ring_members old none count)))
-    (notes : Notes old noted k size) (first_join : Joins noted mid (before noted x) k) (second_join : Joins mid new k x) where
+    (enters : Enters old noted k size) (first_join : Joins noted mid (before noted x) k) (second_join : Joins mid new k x) where
   abbrev all : List ℕ
   all = ring_of old none count
 
@@ -187,15 +215,18 @@ module _ (old noted mid new : List Node) (none count k size x : ℕ) (ring : IsR
 
   put-linked : Links new none (xs ++ k ∷ ys) none
   put-linked =
-      put-links old noted mid new none k size notes not_none x xs ys (is ∙ ap (first_of none) (members-from old x all)) first_join second_join
+      put-links old noted mid new none k size enters not_none x xs ys (is ∙ ap (first_of none) (members-from old x all)) first_join second_join
       (subst (λ js. Links old none js none) (sym (numbers-are x all)) ring.linked) (subst Distinct (sym (numbers-are x all)) ring.apart)
       (ap (λ js. is_among js none) (numbers-are x all) ∙ none_apart old none count ring) (ap (λ js. is_among js k) (numbers-are x all) ∙ absent)
 
-  put-size : (j : ℕ) → size_at new j ≡ cond (eqb j k) size (size_at old j)
-  put-size j = second_join.sizes_stay j ∙ first_join.sizes_stay j ∙ notes.size_is j
+  put-size : size_at new k ≡ size
+  put-size = second_join.sizes_stay k ∙ first_join.sizes_stay k ∙ enters.size_is
+
+  other-size : (j : ℕ) → eqb j k ≡ false → size_at new j ≡ size_at old j
+  other-size j differ = second_join.sizes_stay j ∙ first_join.sizes_stay j ∙ ap (λ (n : Node). n.size) (enters.others_stay j differ)
 
   put-others : (numbers : List ℕ) → is_among numbers k ≡ false → members_at new numbers ≡ members_at old numbers
-  put-others numbers none_there = members-but old new k (λ j differ. put-size j ∙ ap (λ t. cond t size (size_at old j)) differ) numbers none_there
+  put-others numbers none_there = members-but old new k other-size numbers none_there
 
   no_k : (is_among xs k ≡ false) × (is_among ys k ≡ false)
   no_k = or_parts _ _ (sym (among-append xs ys k) ∙ ap (λ js. is_among js k) (numbers-are x all) ∙ absent)
@@ -205,7 +236,7 @@ module _ (old noted mid new : List Node) (none count k size x : ℕ) (ring : IsR
       map-append (λ (j : ℕ). member j (size_at new j)) xs (k ∷ ys)
       ∙ ap (λ ms. ms ++ member k (size_at new k) ∷ members_at new ys) (put-others xs no_k.0)
       ∙ ap (λ ms. members_at old xs ++ member k (size_at new k) ∷ ms) (put-others ys no_k.1)
-      ∙ ap (λ s. members_at old xs ++ member k s ∷ members_at old ys) (put-size k ∙ ap (λ t. cond t size (size_at old k)) (eq-eqb k k refl))
+      ∙ ap (λ s. members_at old xs ++ member k s ∷ members_at old ys) put-size
 
   put-counted : length (xs ++ k ∷ ys) ≡ count + 1
   put-counted = omega (arith, length-append xs (k ∷ ys), length-append xs ys, ap length (numbers-are x all), length-walk old count (after old none))
@@ -220,7 +251,7 @@ module _ (old noted mid new : List Node) (none count k size x : ℕ) (ring : IsR
   pub put-ring : IsRing new none (count + 1)
   put-ring =
       ring-made new none (count + 1) (xs ++ k ∷ ys) put-linked put-counted
-      (second_join.nodes_stay ∙ first_join.nodes_stay ∙ notes.nodes_stay ∙ ring.each_node)
+      (second_join.nodes_stay ∙ first_join.nodes_stay ∙ enters.nodes_stay ∙ ring.each_node)
       (distinct-insert xs ys k (subst Distinct (sym (numbers-are x all)) ring.apart) (ap (λ js. is_among js k) (numbers-are x all) ∙ absent)) put-below
 
   pub put-at : ring_members new none (count + 1) ≡ before_object x (ring_members old none count) ++ member k size ∷ from_object x (ring_members old none count)

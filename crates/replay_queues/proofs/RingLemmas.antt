@@ -2,8 +2,9 @@
 use Rattle.std.proofs.Common.{◌≡◌, ℕ, zero, suc, ◌∙◌, sym, refl, ap, subst, Bool, true, false, not, ◌||◌, cond, eqb, List, [], ◌∷◌, ◌++◌, length, filter, arith}
 use Rattle.std.proofs.lemmas.Bool.{eqb-true, eq-eqb, or_parts, or_from, or_left, or_right}
 use Rattle.policy_model.proofs.Comparisons.{eqb-sym}
-use Rattle.replay_queues.specs.declared.nodes.Node.{Node}
-use Rattle.replay_queues.specs.Rings.{node_at, is_among, Distinct, Links, Joins, walk}
+use Rattle.linked_nodes.specs.declared.nodes.Node.{Node}
+use Rattle.linked_nodes.specs.Nodes.{node_at, Joins}
+use Rattle.replay_queues.specs.Rings.{is_among, Distinct, Links, walk}
 
 abbrev pub after : List Node → ℕ → ℕ
 after nodes k = (node_at nodes k).after
@@ -29,6 +30,14 @@ at-other a b x y other = ap (λ t. cond t x y) other
 pub Links-same : (old new : List Node) → ((k : ℕ) → after new k ≡ after old k) → ((k : ℕ) → before new k ≡ before old k) → (first : ℕ) (numbers : List ℕ) (last : ℕ) → Links old first numbers last → Links new first numbers last
 Links-same old new same_after same_before first [] last l = (same_after first ∙ l.0, same_before last ∙ l.1)
 Links-same old new same_after same_before first (k ∷ rest) last l = (same_after first ∙ l.0, same_before k ∙ l.1, Links-same old new same_after same_before k rest last l.2)
+
+-- where all but one node are as they were, which is none of them
+pub Links-but : (old new : List Node) (q : ℕ) → ((k : ℕ) → eqb k q ≡ false → node_at new k ≡ node_at old k) → (first : ℕ) (numbers : List ℕ) (last : ℕ) → eqb first q ≡ false → is_among numbers q ≡ false → eqb last q ≡ false
+    → Links old first numbers last → Links new first numbers last
+Links-but old new q same first [] last no_first no_q no_last l = (ap (λ (n : Node). n.after) (same first no_first) ∙ l.0, ap (λ (n : Node). n.before) (same last no_last) ∙ l.1)
+Links-but old new q same first (k ∷ rest) last no_first no_q no_last l =
+    let parts : (eqb k q ≡ false) × (is_among rest q ≡ false) = or_parts _ _ no_q in
+    (ap (λ (n : Node). n.after) (same first no_first) ∙ l.0, ap (λ (n : Node). n.before) (same k parts.0) ∙ l.1, Links-but old new q same k rest last parts.0 parts.1 no_last l.2)
 
 -- ---- after a join
 module _ (old new : List Node) (p q : ℕ) (joins : Joins old new p q) where

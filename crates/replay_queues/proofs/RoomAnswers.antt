@@ -16,17 +16,28 @@ use Rattle.replay_queues.proofs.RoomLemmas.{grown-cell, grown-entries}
 use Rattle.replay_queues.proofs.S3FifoAnswers.{kept-entry}
 
 -- ---- three parts
+-- how much room there is changes none of them
+pub parts-roomy : (l : Lined) (main ghosts room : ℕ) (places : List ℕ) → IsParts l main ghosts places → IsParts (record l { room = room }) main ghosts places
+parts-roomy l main ghosts room places is = record {
+  once = is.once;
+  none_apart = is.none_apart;
+  main_is = is.main_is;
+  ghosts_is = is.ghosts_is;
+  each_object = is.each_object;
+  small_is = is.small_is;
+}
+
 -- where a part begins, once another number is that for none
 renumbered : (none objects first : ℕ) (ms : List Member) → first ≡ first_of none ms → has_member ms none ≡ false → cond (eqb first none) objects first ≡ first_of objects ms
 renumbered none objects first [] is apart = ap (λ t. cond t objects first) (eq-eqb first none is)
 renumbered none objects first (m ∷ rest) is apart = ap (λ t. cond t objects first) (ap (λ j. eqb j none) is ∙ (or_parts _ _ apart).0) ∙ is
 
-module _ (l : Lined) (main ghosts : ℕ) (places : List ℕ) (is : IsParts l main ghosts places) (objects n : ℕ) (past : has_member l.members objects ≡ false) (main_after ghosts_after : ℕ) (main_is : main_after ≡ cond (eqb main l.objects) objects main) (ghosts_is : ghosts_after ≡ cond (eqb ghosts l.objects) objects ghosts) where
+module _ (l : Lined) (main ghosts : ℕ) (places : List ℕ) (is : IsParts l main ghosts places) (objects n room : ℕ) (past : has_member l.members objects ≡ false) (main_after ghosts_after : ℕ) (main_is : main_after ≡ cond (eqb main l.objects) objects main) (ghosts_is : ghosts_after ≡ cond (eqb ghosts l.objects) objects ghosts) where
   abbrev q : Parted
   q = parts_of l main ghosts
 
   abbrev more : Lined
-  more = record { objects = objects; members = l.members }
+  more = record { objects = objects; members = l.members; room = room }
 
   no_later : (has_member q.small l.objects ≡ false) × (has_member (q.main ++ q.ghosts) l.objects ≡ false)
   no_later = or_parts _ _ (sym (has_member-append q.small (q.main ++ q.ghosts) l.objects) ∙ ap (λ ms. has_member ms l.objects) (sym (line-parts l main ghosts places is)) ∙ is.none_apart)
@@ -40,7 +51,7 @@ module _ (l : Lined) (main ghosts : ℕ) (places : List ℕ) (is : IsParts l mai
   ghosts_first : ghosts_after ≡ first_of objects q.ghosts
   ghosts_first = ghosts_is ∙ renumbered l.objects objects ghosts q.ghosts is.ghosts_is no_ghost
 
-  pub grown-parts : (new : Lined) → new ≡ more → parts_of new main_after ghosts_after ≡ record q { objects = objects }
+  pub grown-parts : (new : Lined) → new ≡ more → parts_of new main_after ghosts_after ≡ record q { objects = objects; room = room }
   grown-parts new line =
       ap (λ (g : Lined). parts_of g main_after ghosts_after) line
       ∙ cut-parts more main_after ghosts_after q.small q.main q.ghosts (line-parts l main ghosts places is) is.once past main_first ghosts_first
@@ -61,9 +72,9 @@ grown-queued cells n small main ghosts queued = record {
   gone = λ k. ap is_ghost (grown-cell cells n k) ∙ queued.gone k;
 }
 
-module _ (t : ThreeQueues) (is : IsQueued t) (objects n : ℕ) (long : length (t.table ++ replicate n 0) ≡ objects) where
+module _ (t : ThreeQueues) (is : IsQueued t) (objects n room : ℕ) (long : length (t.table ++ replicate n 0) ≡ objects) where
   abbrev with_room : ThreeQueues
-  with_room = record { parts = record t.parts { objects = objects }; table = t.table ++ replicate n 0; small_used = t.small_used; ghosts_used = t.ghosts_used }
+  with_room = record { parts = record t.parts { objects = objects; room = room }; table = t.table ++ replicate n 0; small_used = t.small_used; ghosts_used = t.ghosts_used }
 
   room-queues : queues_at with_room ≡ queues_at t
   room-queues =
@@ -82,14 +93,14 @@ module _ (t : ThreeQueues) (is : IsQueued t) (objects n : ℕ) (long : length (t
     few = is.few;
   }
 
-  module _ (parts : Parted) (table : List ℕ) (parts_is : parts ≡ record t.parts { objects = objects }) (table_is : table ≡ t.table ++ replicate n 0) where
+  module _ (parts : Parted) (table : List ℕ) (parts_is : parts ≡ record t.parts { objects = objects; room = room }) (table_is : table ≡ t.table ++ replicate n 0) where
     abbrev new : ThreeQueues
     new = record { parts = parts; table = table; small_used = t.small_used; ghosts_used = t.ghosts_used }
 
     new_is : new ≡ with_room
     new_is =
         let of : Parted → List ℕ → ThreeQueues = λ p cells. record { parts = p; table = cells; small_used = t.small_used; ghosts_used = t.ghosts_used } in
-        ap (λ p. of p table) parts_is ∙ ap (of (record t.parts { objects = objects })) table_is
+        ap (λ p. of p table) parts_is ∙ ap (of (record t.parts { objects = objects; room = room })) table_is
 
     pub grown-queues : queues_at new ≡ queues_at t
     grown-queues = ap queues_at new_is ∙ room-queues

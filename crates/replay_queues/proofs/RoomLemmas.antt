@@ -48,8 +48,8 @@ grown-held cells n behind ahead held = record {
   known = λ k. ap is_held (grown-cell cells n k) ∙ held.known k;
 }
 
-module _ (h : Hand) (is : IsHand h) (objects n : ℕ) (new : Hand) (table : new.table ≡ h.table ++ replicate n 0) (long : length (h.table ++ replicate n 0) ≡ objects)
-    (line : new.line ≡ record { objects = objects; members = h.line.members }) (next : new.next ≡ first_of objects (from_object h.next h.line.members)) where
+module _ (h : Hand) (is : IsHand h) (objects n room : ℕ) (new : Hand) (table : new.table ≡ h.table ++ replicate n 0) (long : length (h.table ++ replicate n 0) ≡ objects)
+    (line : new.line ≡ record { objects = objects; members = h.line.members; room = room }) (next : new.next ≡ first_of objects (from_object h.next h.line.members)) where
   abbrev b : List Member
   b = before_object h.next h.line.members
 

@@ -1,11 +1,16 @@
 -- Objects in a line, and where a number cuts it.
-use Rattle.std.specs.Prelude.{ℕ, ◌==◌, if◌then◌else◌, List, [], ◌∷◌}
+use Rattle.std.specs.Prelude.{ℕ, ◌<◌, ◌==◌, if◌then◌else◌, List, [], ◌∷◌, length}
 use Rattle.policy_model.specs.States.{Member}
 
--- the members, first to last, and a number above that of each object that may be one
+-- the members, first to last, a number above that of each object that may be one, and how many there may be
 pub record Lined : Type 0 where
   pub objects : ℕ
   pub members : List Member
+  pub room : ℕ
+
+-- there is room for one more
+abbrev pub HasSpace : Lined → Type 0
+HasSpace l = length l.members < l.room
 
 -- the members before the object of this number
 abbrev pub before_object : ℕ → List Member → List Member

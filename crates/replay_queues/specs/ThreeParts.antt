@@ -1,15 +1,16 @@
 -- A small queue, a main queue and ghosts, one after another in a line.
-use Rattle.std.specs.Prelude.{◌≡◌, ℕ, ◌+◌, ◌==◌, Bool, true, false, ◌||◌, if◌then◌else◌, List, [], ◌∷◌, length, drop, slice_index}
+use Rattle.std.specs.Prelude.{◌≡◌, ℕ, ◌+◌, ◌<◌, ◌==◌, Bool, true, false, ◌||◌, if◌then◌else◌, List, [], ◌∷◌, length, drop, slice_index}
 use Rattle.policy_model.specs.States.{Member, has_member, members_size}
 use Rattle.policy_model.specs.Leaving.{without_member}
 use Rattle.replay_queues.specs.Lines.{Lined, before_object, from_object, first_of}
 
--- the members of each, from its front, and a number above that of each object that may be one
+-- the members of each, from its front, a number above that of each object that may be one, and how many there may be
 pub record Parted : Type 0 where
   pub objects : ℕ
   pub small : List Member
   pub main : List Member
   pub ghosts : List Member
+  pub room : ℕ
 
 -- whether the object is in one of the three
 abbrev pub has_part : Parted → ℕ → Bool
@@ -17,11 +18,19 @@ has_part q k = has_member q.small k || (has_member q.main k || has_member q.ghos
 
 -- without the object
 abbrev pub parts_without : ℕ → Parted → Parted
-parts_without k q = record { objects = q.objects; small = without_member k q.small; main = without_member k q.main; ghosts = without_member k q.ghosts }
+parts_without k q = record { objects = q.objects; small = without_member k q.small; main = without_member k q.main; ghosts = without_member k q.ghosts; room = q.room }
 
 -- the bytes of all
 abbrev pub parts_size : Parted → ℕ
 parts_size q = members_size q.small + (members_size q.main + members_size q.ghosts)
+
+-- how many there are
+abbrev pub parts_count : Parted → ℕ
+parts_count q = length q.small + (length q.main + length q.ghosts)
+
+-- there is room for one more
+abbrev pub HasPlace : Parted → Type 0
+HasPlace q = parts_count q < q.room
 
 -- whether there is no member
 abbrev pub no_members : List Member → Bool
@@ -35,6 +44,7 @@ parts_of l main ghosts = record {
   small = before_object main l.members;
   main = before_object ghosts (from_object main l.members);
   ghosts = from_object ghosts (from_object main l.members);
+  room = l.room;
 }
 
 -- no object is there twice

@@ -17,8 +17,8 @@ use std::marker::Model;
 /// that comes in is the last that it comes to.
 ///
 /// A request takes constant time on average, for itself and for each look of the hand. A look gives up an object or
-/// clears the mark of a hit. It takes 17 bytes for each object up to the greatest that came in, and up to a quarter more.
-/// As it makes room for others, it takes both for a moment.
+/// clears the mark of a hit. It takes 5 bytes for each object up to the greatest that came in, and 24 for each that it
+/// holds, with room for more of both.
 #[derive(Drop)]
 pub struct Clock {
     capacity: u64,
@@ -52,7 +52,7 @@ impl Clock {
             objects,
             requests: 0,
             used: 0,
-            hand: Hand::new(alloc, 0)?,
+            hand: Hand::new(alloc)?,
         })
     }
 

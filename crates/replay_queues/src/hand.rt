@@ -1,9 +1,9 @@
 //! The line of SIEVE or of CLOCK and its hand, which goes from the front to the back.
-ghost use Rattle.std.specs.Prelude.{◌≡◌, ◌≤◌, ◌<◌, ◌^◌, ◌+◌, ◌/◌, ◌++◌, ◌∷◌, [], length, max, replicate, true, false, IfOk, OnOk, OnErr, slice_index, slice_set};
+ghost use Rattle.std.specs.Prelude.{◌≡◌, ◌≤◌, ◌<◌, ◌^◌, ◌+◌, ◌/◌, ◌++◌, ◌∷◌, [], length, max, true, false, IfOk, OnOk, OnErr, slice_index, slice_set};
 ghost use Rattle.policy_model.specs.Leaving.{cut_without, without_member};
 ghost use Rattle.policy_model.specs.Sieve.{look, cut_used, begin_again, come_in};
 ghost use Rattle.policy_model.specs.Steps.{without_entry};
-ghost use Rattle.replay_queues.specs.Lines.{first_of, from_object};
+ghost use Rattle.replay_queues.specs.Lines.{first_of, from_object, HasSpace};
 ghost use Rattle.replay_queues.specs.SieveQueues.{is_held, marked_entry, cut_at, with_room, IsHand};
 
 use crate::line::Line;
@@ -28,43 +28,46 @@ pub(crate) struct Hand {
 }
 
 impl Hand {
-    /// Empty, for objects numbered below this. It takes 17 bytes for each.
-    pub(crate) fn new(alloc: Global, objects: u32) -> Result<Self, NoMemory>
-        ensures line { IfOk result (λ hand. hand.line ≡ record { objects = objects; members = [] }) }
-        ensures next { IfOk result (λ hand. hand.next ≡ objects) }
-        ensures table { IfOk result (λ hand. hand.table ≡ replicate objects 0) }
+    /// Empty, with a place for no object.
+    pub(crate) fn new(alloc: Global) -> Result<Self, NoMemory>
+        ensures objects { IfOk result (λ hand. hand.line.objects ≡ 0) }
+        ensures members { IfOk result (λ hand. hand.line.members ≡ []) }
+        ensures next { IfOk result (λ hand. hand.next ≡ 0) }
+        ensures table { IfOk result (λ hand. hand.table ≡ []) }
     {
-        let table = Table::new(alloc, objects)?;
+        let table = Table::new(alloc, 0)?;
         Ok(Hand {
-            line: Line::new(alloc, objects)?,
-            next: objects,
+            line: Line::new(alloc)?,
+            next: 0,
             table,
         })
     }
 
-    // Makes room for objects numbered below this.
+    // Gives objects numbered below this a place, and makes room for one more.
     fn grow(&mut self, alloc: Global, objects: u32) -> Result<(), NoMemory>
         requires more { length self.old.table ≤ objects }
         requires held { IsHand self.old }
         ensures cut { cut_at self.new ≡ cut_at self.old }
         ensures held { IsHand self.new }
-        ensures room { OnOk result (length self.new.table ≡ objects) }
-        ensures stays { OnErr result (self.new ≡ self.old) }
+        ensures known { OnOk result (length self.new.table ≡ objects) }
+        ensures space { OnOk result (HasSpace self.new.line) }
+        ensures table { OnErr result (self.new.table ≡ self.old.table) }
     {
-        let line = self.line.with_objects(alloc, objects)?;
         let table = self.table.with_objects(alloc, objects)?;
-        self.next = self.next_with(objects);
-        self.line = line;
+        let next = self.next_with(objects);
+        self.line.grow(objects)?;
+        self.next = next;
         self.table = table;
         Ok(())
     }
 
-    /// Makes room for an object of those numbered below `objects`, if there is none. It takes constant time, amortized.
+    /// Makes room for an object of those numbered below `objects`. It takes constant time, amortized.
     pub(crate) fn reach(&mut self, alloc: Global, object: u32, objects: u32) -> Result<(), NoMemory>
         requires known { object < objects }
         requires within { length self.old.table ≤ objects }
         requires held { IsHand self.old }
-        ensures room { OnOk result (object < length self.new.table) }
+        ensures known { OnOk result (object < length self.new.table) }
+        ensures space { OnOk result (HasSpace self.new.line) }
         ensures within { length self.new.table ≤ objects }
         ensures few { length self.new.table ≤ max (object + 1) (length self.old.table + length self.old.table / 4) }
         ensures cut { cut_at self.new ≡ cut_at self.old }
@@ -72,7 +75,7 @@ impl Hand {
     {
         let before = self.line.none();
         if object < before {
-            return Ok(());
+            return self.line.reserve();
         }
         self.grow(alloc, room_for(object, before, objects))
     }
@@ -130,6 +133,8 @@ impl Hand {
         ensures freed { cut_used (cut_at self.new) + result ≡ cut_used (cut_at self.old) }
         ensures held { IsHand self.new }
         ensures table { length self.new.table ≡ length self.old.table }
+        ensures few { length self.new.line.members ≤ length self.old.line.members }
+        ensures room { self.new.line.room ≡ self.old.line.room }
     {
         self.next = self.next_without(object);
         self.table.set(object, GONE);
@@ -144,6 +149,7 @@ impl Hand {
         ensures in_use { cut_used (cut_at self.new) ≡ cut_used (cut_at self.old) }
         ensures held { IsHand self.new }
         ensures table { self.new.table ≡ self.old.table }
+        ensures line { self.new.line ≡ self.old.line }
     {
         if self.next == self.line.none() {
             self.next = self.line.first();
@@ -158,6 +164,8 @@ impl Hand {
         ensures freed { cut_used (cut_at self.new) + result ≡ cut_used (cut_at self.old) }
         ensures held { IsHand self.new }
         ensures table { length self.new.table ≡ length self.old.table }
+        ensures few { length self.new.line.members ≤ length self.old.line.members }
+        ensures room { self.new.line.room ≡ self.old.line.room }
     {
         let next = self.next;
         if next == self.line.none() {
@@ -178,6 +186,8 @@ impl Hand {
         ensures freed { cut_used (cut_at self.new) + result ≡ cut_used (cut_at self.old) }
         ensures held { IsHand self.new }
         ensures table { length self.new.table ≡ length self.old.table }
+        ensures few { length self.new.line.members ≤ length self.old.line.members }
+        ensures room { self.new.line.room ≡ self.old.line.room }
     {
         let freed = self.pass();
         self.begin_again();
@@ -196,6 +206,8 @@ impl Hand {
         ensures fits { result + size ≤ capacity }
         ensures held { IsHand self.new }
         ensures table { length self.new.table ≡ length self.old.table }
+        ensures few { length self.new.line.members ≤ length self.old.line.members }
+        ensures room { self.new.line.room ≡ self.old.line.room }
     {
         let mut left = in_use;
         while left + size > capacity {
@@ -208,6 +220,7 @@ impl Hand {
     pub(crate) fn come_in(&mut self, object: u32, size: u64)
         requires known { object < length self.old.table }
         requires absent { is_held (slice_index self.old.table object) ≡ false }
+        requires space { HasSpace self.old.line }
         requires held { IsHand self.old }
         ensures cut { cut_at self.new ≡ come_in (marked_entry HELD (object, size)) (cut_at self.old) }
         ensures held { IsHand self.new }
@@ -223,6 +236,7 @@ impl Hand {
     pub(crate) fn come_in_behind(&mut self, object: u32, size: u64)
         requires known { object < length self.old.table }
         requires absent { is_held (slice_index self.old.table object) ≡ false }
+        requires space { HasSpace self.old.line }
         requires held { IsHand self.old }
         ensures behind { (cut_at self.new).behind ≡ (cut_at self.old).behind ++ marked_entry HELD (object, size) ∷ [] }
         ensures ahead { (cut_at self.new).ahead ≡ (cut_at self.old).ahead }

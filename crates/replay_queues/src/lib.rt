@@ -7,7 +7,6 @@
 mod clock;
 mod hand;
 mod line;
-mod nodes;
 mod parts;
 mod s3fifo;
 mod sieve;
@@ -15,7 +14,6 @@ mod table;
 mod three_queues;
 
 pub use clock::Clock;
-pub use nodes::{Node, join, note_size};
 pub use s3fifo::S3Fifo;
 pub use sieve::Sieve;
 pub use table::room_for;

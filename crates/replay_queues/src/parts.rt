@@ -1,7 +1,7 @@
 //! A small queue, a main queue and ghosts, in one line.
-ghost use Rattle.std.specs.Prelude.{◌≡◌, ◌<◌, ◌≤◌, ◌+◌, ◌++◌, ◌∷◌, ◌==◌, [], true, false, if◌then◌else◌, length, drop, IfOk, IfSome, OnOk, OnErr, MatchOption};
+ghost use Rattle.std.specs.Prelude.{◌≡◌, ◌<◌, ◌≤◌, ◌+◌, ◌++◌, ◌∷◌, ◌==◌, [], true, false, if◌then◌else◌, length, drop, IfOk, IfSome, OnOk, OnErr, OnSome, MatchOption};
 ghost use Rattle.policy_model.specs.States.{member, has_member};
-ghost use Rattle.replay_queues.specs.ThreeParts.{has_part, parts_without, parts_size, no_members, begin_but};
+ghost use Rattle.replay_queues.specs.ThreeParts.{has_part, parts_without, parts_size, no_members, begin_but, parts_count, HasPlace};
 
 use crate::line::Line;
 use crate::table::Table;
@@ -60,38 +60,50 @@ fn begin_with(first: u32, next: u32, object: u32) -> u32
 }
 
 impl Parts {
-    /// Empty, for objects numbered below this. It takes 17 bytes for each.
-    pub(crate) fn new(alloc: Global, objects: u32) -> Result<Self, NoMemory>
-        ensures { IfOk result (λ parts. parts ≡ record { objects = objects; small = []; main = []; ghosts = [] }) }
+    /// Empty, with a place for no object.
+    pub(crate) fn new(alloc: Global) -> Result<Self, NoMemory>
+        ensures objects { IfOk result (λ parts. parts.objects ≡ 0) }
+        ensures small { IfOk result (λ parts. parts.small ≡ []) }
+        ensures main { IfOk result (λ parts. parts.main ≡ []) }
+        ensures ghosts { IfOk result (λ parts. parts.ghosts ≡ []) }
     {
-        let places = Table::new(alloc, objects)?;
+        let places = Table::new(alloc, 0)?;
         Ok(Parts {
-            line: Line::new(alloc, objects)?,
-            main: objects,
-            ghosts: objects,
+            line: Line::new(alloc)?,
+            main: 0,
+            ghosts: 0,
             places,
         })
     }
 
-    /// The number of objects that there is room for.
+    /// The number of objects that have a place.
     pub(crate) fn objects(&self) -> u32
         ensures { result ≡ self.now.objects }
     {
         self.line.none()
     }
 
-    /// Makes room for objects numbered below this.
+    /// Makes room for one more of the objects that have a place.
+    pub(crate) fn reserve(&mut self) -> Result<(), NoMemory>
+        ensures same { self.new ≡ record self.old { room = self.new.room } }
+        ensures space { OnOk result (HasPlace self.new) }
+    {
+        self.line.reserve()?;
+        Ok(())
+    }
+
+    /// Gives objects numbered below this a place, and makes room for one more.
     pub(crate) fn grow(&mut self, alloc: Global, objects: u32) -> Result<(), NoMemory>
         requires more { self.old.objects ≤ objects }
-        ensures grown { OnOk result (self.new ≡ record self.old { objects = objects }) }
-        ensures stays { OnErr result (self.new ≡ self.old) }
+        ensures grown { OnOk result (self.new ≡ record self.old { objects = objects; room = self.new.room }) }
+        ensures same { OnErr result (self.new ≡ record self.old { room = self.new.room }) }
+        ensures space { OnOk result (HasPlace self.new) }
     {
-        let line = self.line.with_objects(alloc, objects)?;
         let places = self.places.with_objects(alloc, objects)?;
         let none = self.line.none();
+        self.line.grow(objects)?;
         self.main = begin_with(self.main, none, objects);
         self.ghosts = begin_with(self.ghosts, none, objects);
-        self.line = line;
         self.places = places;
         Ok(())
     }
@@ -121,6 +133,7 @@ impl Parts {
     pub(crate) fn push_small(&mut self, object: u32, size: u64)
         requires known { object < self.old.objects }
         requires absent { has_part self.old object ≡ false }
+        requires space { HasPlace self.old }
         ensures { self.new ≡ record self.old { small = self.old.small ++ member object size ∷ [] } }
     {
         self.line.put(object, size, self.main);
@@ -131,6 +144,7 @@ impl Parts {
     pub(crate) fn push_main(&mut self, object: u32, size: u64)
         requires known { object < self.old.objects }
         requires absent { has_part self.old object ≡ false }
+        requires space { HasPlace self.old }
         ensures { self.new ≡ record self.old { main = self.old.main ++ member object size ∷ [] } }
     {
         self.line.put(object, size, self.ghosts);
@@ -141,6 +155,7 @@ impl Parts {
     pub(crate) fn push_ghost(&mut self, object: u32, size: u64)
         requires known { object < self.old.objects }
         requires absent { has_part self.old object ≡ false }
+        requires space { HasPlace self.old }
         ensures { self.new ≡ record self.old { ghosts = self.old.ghosts ++ member object size ∷ [] } }
     {
         let none = self.line.none();
@@ -155,6 +170,8 @@ impl Parts {
         ensures rest { self.new ≡ parts_without object self.old }
         ensures size { parts_size self.new + result ≡ parts_size self.old }
         ensures known { object < self.new.objects }
+        ensures count { parts_count self.new + 1 ≡ parts_count self.old }
+        ensures space { HasPlace self.new }
     {
         self.main = begin_without(&self.line, self.main, object);
         self.ghosts = begin_without(&self.line, self.ghosts, object);
@@ -169,6 +186,8 @@ impl Parts {
         ensures rest { self.new ≡ record self.old { small = drop 1 self.old.small } }
         ensures absent { IfSome result (λ p. has_part self.new p.0 ≡ false) }
         ensures known { IfSome result (λ p. p.0 < self.new.objects) }
+        ensures count { OnSome result (parts_count self.new + 1 ≡ parts_count self.old) }
+        ensures space { OnSome result (HasPlace self.new) }
     {
         if self.no_small() {
             return None;
@@ -183,6 +202,8 @@ impl Parts {
         ensures rest { self.new ≡ record self.old { main = drop 1 self.old.main } }
         ensures absent { IfSome result (λ p. has_part self.new p.0 ≡ false) }
         ensures known { IfSome result (λ p. p.0 < self.new.objects) }
+        ensures count { OnSome result (parts_count self.new + 1 ≡ parts_count self.old) }
+        ensures space { OnSome result (HasPlace self.new) }
     {
         if self.no_main() {
             return None;
@@ -198,6 +219,8 @@ impl Parts {
         ensures rest { self.new ≡ record self.old { ghosts = drop 1 self.old.ghosts } }
         ensures absent { has_part self.new result.0 ≡ false }
         ensures known { result.0 < self.new.objects }
+        ensures count { parts_count self.new + 1 ≡ parts_count self.old }
+        ensures space { HasPlace self.new }
     {
         let object = self.ghosts;
         let size = self.remove(object);

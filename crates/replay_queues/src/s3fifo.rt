@@ -21,9 +21,9 @@ use std::marker::Model;
 /// asked for comes into the main queue. The oldest ghosts are forgotten if they have more bytes than the main queue is
 /// meant to have.
 ///
-/// A request takes constant time on average: each move of an object uses up a hit, or is the one of a miss. It takes 18
-/// bytes for each object up to the greatest that came in, and up to a quarter more. As it makes room for others, it takes
-/// both for a moment.
+/// A request takes constant time on average: each move of an object uses up a hit, or is the one of a miss. It takes 6
+/// bytes for each object up to the greatest that came in, and 24 for each that it holds and each ghost, with room for more
+/// of both.
 #[derive(Drop)]
 pub struct S3Fifo {
     capacity: u64,
@@ -56,7 +56,7 @@ impl S3Fifo {
             objects,
             requests: 0,
             used: 0,
-            queues: ThreeQueues::new(alloc, 0)?,
+            queues: ThreeQueues::new(alloc)?,
         })
     }
 

@@ -1,7 +1,8 @@
 //! The queues of S3-FIFO.
-ghost use Rattle.std.specs.Prelude.{◌≡◌, ◌≤◌, ◌<◌, ◌^◌, ◌+◌, ◌/◌, [], length, max, min, replicate, false, IfOk, OnOk, OnErr, slice_index, slice_set};
+ghost use Rattle.std.specs.Prelude.{◌≡◌, ◌≤◌, ◌<◌, ◌^◌, ◌+◌, ◌/◌, [], length, max, min, false, IfOk, OnOk, OnErr, slice_index, slice_set};
 ghost use Rattle.policy_model.specs.Leaving.{queues_without};
 ghost use Rattle.policy_model.specs.S3Fifo.{fade, shrink_small, shrink, queues_used, enter};
+ghost use Rattle.replay_queues.specs.ThreeParts.{parts_count, HasPlace};
 ghost use Rattle.replay_queues.specs.SmallAndMain.{is_kept, counted_entry, queues_at, main_shrunk, with_space, IsFading, IsQueued};
 
 use crate::parts::Parts;
@@ -30,30 +31,34 @@ pub(crate) struct ThreeQueues {
 }
 
 impl ThreeQueues {
-    /// Empty, for objects numbered below this. It takes 18 bytes for each.
-    pub(crate) fn new(alloc: Global, objects: u32) -> Result<Self, NoMemory>
-        ensures parts { IfOk result (λ queues. queues.parts ≡ record { objects = objects; small = []; main = []; ghosts = [] }) }
-        ensures table { IfOk result (λ queues. queues.table ≡ replicate objects 0) }
+    /// Empty, with a place for no object.
+    pub(crate) fn new(alloc: Global) -> Result<Self, NoMemory>
+        ensures objects { IfOk result (λ queues. queues.parts.objects ≡ 0) }
+        ensures small { IfOk result (λ queues. queues.parts.small ≡ []) }
+        ensures main { IfOk result (λ queues. queues.parts.main ≡ []) }
+        ensures ghosts { IfOk result (λ queues. queues.parts.ghosts ≡ []) }
+        ensures table { IfOk result (λ queues. queues.table ≡ []) }
         ensures small_used { IfOk result (λ queues. queues.small_used ≡ 0) }
         ensures ghosts_used { IfOk result (λ queues. queues.ghosts_used ≡ 0) }
     {
-        let table = Table::new(alloc, objects)?;
+        let table = Table::new(alloc, 0)?;
         Ok(ThreeQueues {
-            parts: Parts::new(alloc, objects)?,
+            parts: Parts::new(alloc)?,
             table,
             small_used: 0,
             ghosts_used: 0,
         })
     }
 
-    // Makes room for objects numbered below this.
+    // Gives objects numbered below this a place, and makes room for one more.
     fn grow(&mut self, alloc: Global, objects: u32) -> Result<(), NoMemory>
         requires more { length self.old.table ≤ objects }
         requires queued { IsQueued self.old }
         ensures queues { queues_at self.new ≡ queues_at self.old }
         ensures queued { IsQueued self.new }
-        ensures room { OnOk result (length self.new.table ≡ objects) }
-        ensures stays { OnErr result (self.new ≡ self.old) }
+        ensures known { OnOk result (length self.new.table ≡ objects) }
+        ensures space { OnOk result (HasPlace self.new.parts) }
+        ensures table { OnErr result (self.new.table ≡ self.old.table) }
     {
         let table = self.table.with_objects(alloc, objects)?;
         self.parts.grow(alloc, objects)?;
@@ -61,12 +66,13 @@ impl ThreeQueues {
         Ok(())
     }
 
-    /// Makes room for an object of those numbered below `objects`, if there is none. It takes constant time, amortized.
+    /// Makes room for an object of those numbered below `objects`. It takes constant time, amortized.
     pub(crate) fn reach(&mut self, alloc: Global, object: u32, objects: u32) -> Result<(), NoMemory>
         requires known { object < objects }
         requires within { length self.old.table ≤ objects }
         requires queued { IsQueued self.old }
-        ensures room { OnOk result (object < length self.new.table) }
+        ensures known { OnOk result (object < length self.new.table) }
+        ensures space { OnOk result (HasPlace self.new.parts) }
         ensures within { length self.new.table ≤ objects }
         ensures few { length self.new.table ≤ max (object + 1) (length self.old.table + length self.old.table / 4) }
         ensures queues { queues_at self.new ≡ queues_at self.old }
@@ -74,7 +80,7 @@ impl ThreeQueues {
     {
         let before = self.parts.objects();
         if object < before {
-            return Ok(());
+            return self.parts.reserve();
         }
         self.grow(alloc, room_for(object, before, objects))
     }
@@ -104,6 +110,8 @@ impl ThreeQueues {
         ensures queues { queues_at self.new ≡ record (queues_at self.old) { ghosts = fade most self.old.parts.ghosts } }
         ensures queued { IsQueued self.new }
         ensures table { length self.new.table ≡ length self.old.table }
+        ensures few { parts_count self.new.parts ≤ parts_count self.old.parts }
+        ensures room { self.new.parts.room ≡ self.old.parts.room }
     {
         while self.ghosts_used > most {
             let (object, size) = self.parts.pop_ghost();
@@ -121,6 +129,8 @@ impl ThreeQueues {
         ensures freed { queues_used (queues_at self.new) + result ≡ queues_used (queues_at self.old) }
         ensures queued { IsQueued self.new }
         ensures table { length self.new.table ≡ length self.old.table }
+        ensures few { parts_count self.new.parts ≤ parts_count self.old.parts }
+        ensures room { self.new.parts.room ≡ self.old.parts.room }
     {
         while let Some((object, size)) = self.parts.pop_small() {
             self.small_used -= size;
@@ -145,6 +155,8 @@ impl ThreeQueues {
         ensures freed { queues_used (queues_at self.new) + result ≡ queues_used (queues_at self.old) }
         ensures queued { IsQueued self.new }
         ensures table { length self.new.table ≡ length self.old.table }
+        ensures few { parts_count self.new.parts ≤ parts_count self.old.parts }
+        ensures room { self.new.parts.room ≡ self.old.parts.room }
     {
         while let Some((object, size)) = self.parts.pop_main() {
             let cell = self.table.get(object);
@@ -166,6 +178,8 @@ impl ThreeQueues {
         ensures freed { queues_used (queues_at self.new) + result ≡ queues_used (queues_at self.old) }
         ensures queued { IsQueued self.new }
         ensures table { length self.new.table ≡ length self.old.table }
+        ensures few { parts_count self.new.parts ≤ parts_count self.old.parts }
+        ensures room { self.new.parts.room ≡ self.old.parts.room }
     {
         let part = capacity / 10;
         if !self.parts.no_small() && (part <= self.small_used || self.parts.no_main()) {
@@ -186,6 +200,8 @@ impl ThreeQueues {
         ensures fits { result + size ≤ capacity }
         ensures queued { IsQueued self.new }
         ensures table { length self.new.table ≡ length self.old.table }
+        ensures few { parts_count self.new.parts ≤ parts_count self.old.parts }
+        ensures room { self.new.parts.room ≡ self.old.parts.room }
     {
         let mut left = in_use;
         while left + size > capacity {
@@ -198,6 +214,7 @@ impl ThreeQueues {
     pub(crate) fn enter(&mut self, object: u32, size: u64)
         requires known { object < length self.old.table }
         requires absent { is_kept (slice_index self.old.table object) ≡ false }
+        requires space { HasPlace self.old.parts }
         requires range { queues_used (queues_at self.old) + size ≤ 2 ^ 56 }
         requires queued { IsQueued self.old }
         ensures queues { queues_at self.new ≡ enter (counted_entry HELD (object, size)) (queues_at self.old) }

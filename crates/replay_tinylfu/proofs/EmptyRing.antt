@@ -2,8 +2,9 @@
 use Rattle.std.proofs.Common.{◌≡◌, ⊎_elim, ℕ, ◌+◌, ◌<◌, ◌≤◌, ◌^◌, ◌∙◌, sym, refl, ap, subst, Bool, true, false, ◌||◌, cond, eqb, List, [], ◌∷◌, length, get_or, replicate, arith}
 use Rattle.std.proofs.lemmas.Bool.{eqb-true, eq-eqb, ne_eqb, or_from, or_left, cases_lt}
 use Rattle.std.proofs.lemmas.List.{length-replicate, get_or-replicate, get_or_past}
-use Rattle.replay_queues.specs.declared.nodes.Node.{Node}
-use Rattle.replay_queues.specs.Rings.{is_among, Joins}
+use Rattle.linked_nodes.specs.declared.nodes.Node.{Node}
+use Rattle.linked_nodes.specs.Nodes.{Joins}
+use Rattle.replay_queues.specs.Rings.{is_among}
 use Rattle.replay_queues.proofs.RingLemmas.{after-here, after-other, before-here, before-other}
 use Rattle.replay_tinylfu.specs.declared.ring.Load.{Load}
 use Rattle.replay_tinylfu.specs.Marks.{up_to, past}

@@ -8,16 +8,17 @@ use Rattle.policy_model.proofs.Comparisons.{eqb-sym}
 use Rattle.policy_model.specs.States.{Entry, used, has_entry}
 use Rattle.policy_model.specs.Steps.{without_entry}
 use Rattle.policy_model.specs.WTinyLfu.{entry_of, segment_entries}
-use Rattle.replay_queues.specs.declared.nodes.Node.{Node}
-use Rattle.replay_queues.specs.Rings.{is_among, Distinct, Notes, walk}
-use Rattle.replay_queues.proofs.RingLemmas.{after, before, without, walked}
-use Rattle.replay_queues.proofs.GhostAnswers.{size_at, few, sum-without, ones, among-push}
+use Rattle.linked_nodes.specs.declared.nodes.Node.{Node}
+use Rattle.linked_nodes.specs.Nodes.{Enters}
+use Rattle.replay_queues.specs.Rings.{is_among, Distinct, walk}
+use Rattle.replay_queues.proofs.RingLemmas.{after, without, walked}
+use Rattle.replay_queues.proofs.GhostAnswers.{size_at, few, sum-without, ones, among-push, without-gone}
 use Rattle.replay_queues.proofs.ItemLemmas.{here, other, within_cells, has_entry-append}
 use Rattle.replay_tinylfu.specs.declared.ring.Load.{Load}
 use Rattle.replay_tinylfu.specs.Marks.{up_to, past, put_in, PutsBefore}
 use Rattle.replay_tinylfu.specs.Queues.{Queues, plain_entry, entries_at, window_of, main_numbers, probation_of, protected_of, queues_by, queues_at, with_window, with_probation, with_protected}
 use Rattle.replay_tinylfu.specs.Loads.{numbers_of, IsRing, ArePlaces, IsLoad, IsKept}
-use Rattle.replay_tinylfu.proofs.LinkLemmas.{ring-noted, window-window, window-probation, window-protected, probation-window, probation-probation, probation-protected, protected-window, protected-probation, protected-protected, ring-window, ring-probation, ring-protected}
+use Rattle.replay_tinylfu.proofs.LinkLemmas.{ring-but, window-window, window-probation, window-protected, probation-window, probation-probation, probation-protected, protected-window, protected-probation, protected-protected, ring-window, ring-probation, ring-protected}
 use Rattle.replay_tinylfu.proofs.MarkLemmas.{distinct-up_to, distinct-past, length-parts}
 
 -- ---- the entries of numbers
@@ -111,7 +112,7 @@ load-push old new numbers load k size same is =
       bytes_are = omega (arith, ap used same, sum_by_push (λ (e : Entry). e.size) (entries_at old numbers) (plain_entry k size));
     }
 
-pub load-less : (old new : List Node) (numbers : List ℕ) (load : Load) (k : ℕ) → Distinct numbers → is_among numbers k ≡ true → ((j : ℕ) → size_at new j ≡ size_at old j) → IsLoad old numbers load
+pub load-less : (old new : List Node) (numbers : List ℕ) (load : Load) (k : ℕ) → Distinct numbers → is_among numbers k ≡ true → ((j : ℕ) → eqb j k ≡ false → size_at new j ≡ size_at old j) → IsLoad old numbers load
     → IsLoad new (without k numbers) (record { entries = load.entries - 1; bytes = load.bytes - size_at old k })
 load-less old new numbers load k apart there same is =
     let many : load.entries ≡ length numbers = is.entries_are in
@@ -120,7 +121,7 @@ load-less old new numbers load k apart there same is =
       entries_are = omega (arith, sum-without (λ (j : ℕ). 1) k numbers apart there, ones numbers, ones (without k numbers));
       bytes_are = omega (
         arith,
-        ap used (entries-same old new same (without k numbers)),
+        ap used (entries-but old new k same (without k numbers) (without-gone k numbers)),
         entries-used old numbers,
         entries-used old (without k numbers),
         sum-without (size_at old) k numbers apart there,
@@ -224,31 +225,31 @@ module _ (nodes : List Node) (places : List ℕ) (none : ℕ) (w p t : Load) (nu
 
 -- ---- one is put in
 module _ (old noted new : List Node) (places : List ℕ) (none : ℕ) (w p t : Load) (numbers : List ℕ) (kept : IsKept old places none w p t numbers) (k size : ℕ) (low : k < none)
-    (absent : has_entry (segment_entries (queues_at old none numbers).segments) k ≡ false) (notes : Notes old noted k size) where
+    (absent : has_entry (segment_entries (queues_at old none numbers).segments) k ≡ false) (enters : Enters old noted k size) where
   no_numbers : (is_among (window_of none numbers) k ≡ false) × (is_among (probation_of none numbers) k ≡ false) × (is_among (protected_of none numbers) k ≡ false) × (is_among numbers k ≡ false)
   no_numbers = no_number old places none w p t numbers kept k low absent
 
   noted_ring : IsRing noted none numbers
-  noted_ring = ring-noted old none numbers kept.ring noted k size notes
+  noted_ring = ring-but old none numbers kept.ring noted k low no_numbers.3 enters.nodes_stay enters.others_stay
 
   within : k < length places
   within = let each : length places ≡ none = kept.each_object in omega arith
 
-  pub notes-last : (next : ℕ) → before old next < length old → before noted next < length noted
-  notes-last next low_before = let same : before noted next ≡ before old next = notes.before_stay next in let long : length noted ≡ length old = notes.nodes_stay in omega arith
-
   module _ (next : ℕ) (puts : PutsBefore noted new k next) where
-    size-new : (j : ℕ) → size_at new j ≡ cond (eqb j k) size (size_at old j)
-    size-new j = puts.second_join.sizes_stay j ∙ puts.first_join.sizes_stay j ∙ notes.size_is j
+    size-new : size_at new k ≡ size
+    size-new = puts.second_join.sizes_stay k ∙ puts.first_join.sizes_stay k ∙ enters.size_is
+
+    size-other : (j : ℕ) → eqb j k ≡ false → size_at new j ≡ size_at old j
+    size-other j differs = puts.second_join.sizes_stay j ∙ puts.first_join.sizes_stay j ∙ ap (λ (n : Node). n.size) (enters.others_stay j differs)
 
     stays : (part : List ℕ) → is_among part k ≡ false → entries_at new part ≡ entries_at old part
-    stays part none_there = entries-but old new k (λ j differs. size-new j ∙ ap (λ b. cond b size (size_at old j)) differs) part none_there
+    stays part none_there = entries-but old new k size-other part none_there
 
     grows : (part : List ℕ) → is_among part k ≡ false → entries_at new (part ++ k ∷ []) ≡ entries_at old part ++ plain_entry k size ∷ []
     grows part none_there =
         map-append (λ (j : ℕ). plain_entry j (size_at new j)) part (k ∷ [])
         ∙ ap (λ es. es ++ plain_entry k (size_at new k) ∷ []) (stays part none_there)
-        ∙ ap (λ s. entries_at old part ++ plain_entry k s ∷ []) (size-new k ∙ ap (λ b. cond b size (size_at old k)) (eq-eqb k k refl))
+        ∙ ap (λ s. entries_at old part ++ plain_entry k s ∷ []) size-new
 
     -- which lists the parts are then
     module _ (after_numbers : List ℕ) (ring : IsRing new none after_numbers) where
@@ -275,7 +276,7 @@ module _ (old noted new : List Node) (places : List ℕ) (none : ℕ) (w p t : L
     set_to i part are = place-set places k i within i part (part ++ k ∷ []) are (λ q h. among-pushed part k q h) (eq-eqb i i refl ∙ sym (among-itself part k))
 
     abbrev of : List Entry → List Entry → List Entry → Queues
-    of a b c = record { objects = none; segments = record { window = a; main = record { probation = b; protected = c } } }
+    of a b c = record { objects = none; segments = record { window = a; main = record { probation = b; protected = c } }; room = 0 }
 
     same-queues : (wa pa ta : List ℕ) (a b c : List Entry) → entries_at new wa ≡ a → entries_at new pa ≡ b → entries_at new ta ≡ c → queues_by new none wa pa ta ≡ of a b c
     same-queues wa pa ta a b c of_a of_b of_c = ap (λ es. of es (entries_at new pa) (entries_at new ta)) of_a ∙ ap (λ es. of a es (entries_at new ta)) of_b ∙ ap (of a b) of_c

@@ -2,9 +2,10 @@ pub mod MarkLemmas
 pub mod LinkLemmas
 pub mod KeptLemmas
 pub mod TakenLemmas
+pub mod HeldLemmas
+pub mod WiderLemmas
 pub mod EmptyRing
 pub mod CountLemmas
 pub mod WalkLemmas
 pub mod MoveLemmas
 pub mod TinyAnswers
-pub mod RoomLemmas

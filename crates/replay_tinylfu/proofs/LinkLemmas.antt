@@ -1,12 +1,13 @@
 -- The ring of marks and objects, as one is put in or taken out.
 use Rattle.std.proofs.Common.{◌≡◌, ℕ, ◌+◌, ◌<◌, ◌∙◌, sym, refl, ap, subst, Bool, true, false, ◌||◌, cond, eqb, List, [], ◌∷◌, ◌++◌, length, arith}
-use Rattle.std.proofs.lemmas.Bool.{eqb-true, ne_eqb, or_parts}
+use Rattle.std.proofs.lemmas.Bool.{eqb-true, eq-eqb, ne_eqb, or_left, or_parts, or_right}
 use Rattle.policy_model.proofs.Comparisons.{eqb-sym}
-use Rattle.replay_queues.specs.declared.nodes.Node.{Node}
-use Rattle.replay_queues.specs.Rings.{is_among, Distinct, Links, Joins, Notes}
-use Rattle.replay_queues.proofs.RingLemmas.{after, before, without, differs, Links-same, Links-other, after-here, after-other, before-here, before-other, before-among, after-among, last-beside, takes_last, goes_on, taken_out}
-use Rattle.replay_queues.proofs.GhostAnswers.{distinct-without, more-among}
-use Rattle.replay_tinylfu.specs.Marks.{up_to, past, put_in, PutsBefore}
+use Rattle.linked_nodes.specs.declared.nodes.Node.{Node}
+use Rattle.linked_nodes.specs.Nodes.{node_at, IsThere, Joins}
+use Rattle.replay_queues.specs.Rings.{is_among, Distinct, Links}
+use Rattle.replay_queues.proofs.RingLemmas.{after, before, without, differs, Links-but, Links-other, after-here, after-other, before-here, before-other, before-among, after-among, last-beside, takes_last, goes_on, taken_out}
+use Rattle.replay_queues.proofs.GhostAnswers.{distinct-without, more-among, without-gone}
+use Rattle.replay_tinylfu.specs.Marks.{up_to, past, put_in, PutsBefore, TakesOut}
 use Rattle.replay_tinylfu.specs.Queues.{window_of, main_numbers, probation_of, protected_of}
 use Rattle.replay_tinylfu.specs.Loads.{IsRing}
 use Rattle.replay_tinylfu.proofs.MarkLemmas.{among-up_to, among-past, whole-past, past-up_to, among-put, among-kept, distinct-put, put-last, up_to-put, past-put, up_to-later, past-later, up_to-without, past-without, among-without}
@@ -84,18 +85,52 @@ module _ (nodes : List Node) (none : ℕ) (numbers : List ℕ) (ring : IsRing no
   pub third-there : is_among numbers (none + 2) ≡ true
   third-there = whole-past (none + 1) (none + 2) numbers ring.third_mark
 
-  -- nodes whose links are the same
-  pub ring-noted : (new : List Node) (k size : ℕ) → Notes nodes new k size → IsRing new none numbers
-  ring-noted new k size notes = record {
+  -- where all nodes but one are as they were, which is not in it
+  pub ring-but : (new : List Node) (k : ℕ) → k < none → is_among numbers k ≡ false → length new ≡ length nodes → ((q : ℕ) → eqb q k ≡ false → node_at new q ≡ node_at nodes q) → IsRing new none numbers
+  ring-but new k low absent long same = record {
     few = ring.few;
-    each_node = notes.nodes_stay ∙ ring.each_node;
-    linked = Links-same nodes new notes.follow_stay notes.before_stay none numbers none ring.linked;
+    each_node = long ∙ ring.each_node;
+    linked = Links-but nodes new k same none numbers none (not_first k low) absent (not_first k low) ring.linked;
     apart = ring.apart;
     first_apart = ring.first_apart;
     below = ring.below;
     second_mark = ring.second_mark;
     third_mark = ring.third_mark;
   }
+
+  -- which nodes are there
+  after-first : after nodes none < none + 3
+  after-first = at numbers ring.linked ring.below
+    where
+      at : (ks : List ℕ) → Links nodes none ks none → ((k : ℕ) → is_among ks k ≡ true → k < none + 3) → after nodes none < none + 3
+      at [] linked below = let is : after nodes none ≡ none = linked.0 in omega arith
+      at (j ∷ rest) linked below =
+          let is : after nodes none ≡ j = linked.0 in
+          let low : j < none + 3 = below j (or_left (eqb j j) (is_among rest j) (eq-eqb j j refl)) in
+          omega arith
+
+  pub ring-there : (k : ℕ) → is_among (none ∷ numbers) k ≡ true → IsThere nodes k
+  ring-there k there =
+      (let low : k < none + 3 = beside k there in omega (arith, ring.each_node), at (eqb none k) refl)
+    where
+      at : (t : Bool) → eqb none k ≡ t → after nodes k < length nodes
+      at true e = let low : after nodes k < none + 3 = subst (λ j. after nodes j < none + 3) (eqb-true none k e) after-first in omega (arith, ring.each_node)
+      at false e = after-within k (ap (λ t. t || is_among numbers k) (sym e) ∙ there)
+
+  pub among-there : (k : ℕ) → is_among numbers k ≡ true → IsThere nodes k
+  among-there k there = ring-there k (or_right (eqb none k) (is_among numbers k) there)
+
+  pub first-there : IsThere nodes none
+  first-there = ring-there none (or_left (eqb none none) (is_among numbers none) (eq-eqb none none refl))
+
+  pub before-there : (k : ℕ) → is_among numbers k ≡ true → IsThere nodes (before nodes k)
+  before-there k there = ring-there (before nodes k) (before-among nodes none numbers none k ring.linked there)
+
+  pub after-there : (k : ℕ) → is_among numbers k ≡ true → IsThere nodes (after nodes k)
+  after-there k there = ring-there (after nodes k) (after-among nodes none numbers none k ring.linked there)
+
+  pub last-there : IsThere nodes (before nodes none)
+  last-there = ring-there (before nodes none) (last-beside nodes none numbers none ring.linked)
 
   -- ---- one is taken out
   module _ (k : ℕ) (low : k < none) where
@@ -111,11 +146,12 @@ module _ (nodes : List Node) (none : ℕ) (numbers : List ℕ) (ring : IsRing no
     pub protected-less : protected_of none (without k numbers) ≡ without k (protected_of none numbers)
     protected-less = ap (past (none + 2)) main-less ∙ past-without (none + 2) k (not_third k low) (main_numbers none numbers)
 
-    pub ring-less : (new : List Node) → is_among numbers k ≡ true → Joins nodes new (before nodes k) (after nodes k) → IsRing new none (without k numbers)
-    ring-less new there joins = record {
+    pub ring-less : (new : List Node) → is_among numbers k ≡ true → TakesOut nodes new k → IsRing new none (without k numbers)
+    ring-less new there takes = record {
       few = ring.few;
-      each_node = joins.nodes_stay ∙ ring.each_node;
-      linked = taken_out nodes new k none numbers none joins ring.apart there ring.first_apart ring.first_apart ring.linked;
+      each_node = takes.leaves.nodes_stay ∙ takes.joins.nodes_stay ∙ ring.each_node;
+      linked = Links-but takes.mid new k takes.leaves.others_stay none (without k numbers) none (not_first k low) (without-gone k numbers) (not_first k low)
+          (taken_out nodes takes.mid k none numbers none takes.joins ring.apart there ring.first_apart ring.first_apart ring.linked);
       apart = distinct-without k numbers ring.apart;
       first_apart = among-without k none numbers (eqb-sym k none ∙ not_first k low) ∙ ring.first_apart;
       below = λ q h. ring.below q (more-among k q numbers h);

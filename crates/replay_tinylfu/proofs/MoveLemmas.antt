@@ -83,10 +83,12 @@ first_with-few bytes (e ∷ rest) =
     cond_both (eqb bytes 0) [] (e ∷ first_with (bytes - e.size) rest) (λ es. length es ≤ length (e ∷ rest)) (λ _. omega arith) (λ _. omega (arith, first_with-few (bytes - e.size) rest))
 
 -- queues by their parts
-pub queues-as : (q : Queues) (objects : ℕ) (window : List Entry) (m : Main) → q.objects ≡ objects → q.segments.window ≡ window → q.segments.main ≡ m → q ≡ record { objects = objects; segments = record { window = window; main = m } }
-queues-as q objects window m of_objects of_window of_main =
-    let of : ℕ → List Entry → Main → Queues = λ o w n. record { objects = o; segments = record { window = w; main = n } } in
-    ap (λ o. of o q.segments.window q.segments.main) of_objects ∙ ap (λ w. of objects w q.segments.main) of_window ∙ ap (of objects window) of_main
+pub queues-as : (q : Queues) (objects room : ℕ) (window : List Entry) (m : Main) → q.objects ≡ objects → q.room ≡ room → q.segments.window ≡ window → q.segments.main ≡ m
+    → q ≡ record { objects = objects; segments = record { window = window; main = m }; room = room }
+queues-as q objects room window m of_objects of_room of_window of_main =
+    let of : ℕ → ℕ → List Entry → Main → Queues = λ o r w n. record { objects = o; segments = record { window = w; main = n }; room = r } in
+    ap (λ o. of o q.room q.segments.window q.segments.main) of_objects ∙ ap (λ r. of objects r q.segments.window q.segments.main) of_room
+    ∙ ap (λ w. of objects room w q.segments.main) of_window ∙ ap (of objects room window) of_main
 
 -- the bytes of an object that is taken out
 pub taken-bytes : (k size : ℕ) (entries : List Entry) → entry_of k entries ≡ plain_entry k size ∷ [] → used (without_entry k entries) + size ≡ used entries

@@ -5,17 +5,17 @@ use Rattle.std.proofs.lemmas.List.{length-set}
 use Rattle.policy_model.specs.States.{Entry, has_entry}
 use Rattle.policy_model.specs.Steps.{without_entry}
 use Rattle.policy_model.specs.WTinyLfu.{entry_of, segment_entries}
-use Rattle.replay_queues.specs.declared.nodes.Node.{Node}
-use Rattle.replay_queues.specs.Rings.{is_among, Distinct, Links, Joins}
-use Rattle.replay_queues.proofs.RingLemmas.{after, before, without, without-none}
-use Rattle.replay_queues.proofs.GhostAnswers.{size_at}
+use Rattle.linked_nodes.specs.declared.nodes.Node.{Node}
+use Rattle.replay_queues.specs.Rings.{is_among, Distinct, Links}
+use Rattle.replay_queues.proofs.RingLemmas.{after, without, without-none}
+use Rattle.replay_queues.proofs.GhostAnswers.{size_at, without-gone}
 use Rattle.replay_tinylfu.specs.declared.ring.Load.{Load}
-use Rattle.replay_tinylfu.specs.Marks.{up_to, past}
+use Rattle.replay_tinylfu.specs.Marks.{up_to, past, TakesOut}
 use Rattle.replay_tinylfu.specs.Queues.{Queues, plain_entry, entries_at, window_of, main_numbers, probation_of, protected_of, queues_at, with_window, with_probation, with_protected}
 use Rattle.replay_tinylfu.specs.Loads.{IsRing, IsLoad, IsKept}
 use Rattle.replay_tinylfu.proofs.MarkLemmas.{whole-up_to, whole-past, among-without, gone-without}
 use Rattle.replay_tinylfu.proofs.LinkLemmas.{window-less, probation-less, protected-less, ring-less}
-use Rattle.replay_tinylfu.proofs.KeptLemmas.{entries-same, entries-without, entry-one, place-set, load-same, load-less, load-has, apart-window, apart-probation, apart-protected, window-low, probation-low, protected-low, apart-place, no_entry}
+use Rattle.replay_tinylfu.proofs.KeptLemmas.{entries-but, entries-without, entry-one, place-set, load-same, load-less, load-has, apart-window, apart-probation, apart-protected, window-low, probation-low, protected-low, apart-place, no_entry}
 
 -- what follows a mark
 pub Links-past : (nodes : List Node) (mark first : ℕ) (numbers : List ℕ) (last : ℕ) → Links nodes first numbers last → is_among numbers mark ≡ true → Links nodes mark (past mark numbers) last
@@ -44,6 +44,10 @@ module _ (old : List Node) (places : List ℕ) (none : ℕ) (w p t : Load) (numb
   elsewhere : (i j : ℕ) (part : List ℕ) → eqb (get_or places k 0) i ≡ true → eqb i j ≡ false → ((q : ℕ) → eqb (get_or places q 0) j ≡ is_among part q) → is_among part k ≡ false
   elsewhere i j part is differ are = sym (are k) ∙ apart-place old places none w p t numbers kept k i j is differ
 
+  -- the others have their sizes
+  sizes-stay : (new : List Node) → TakesOut old new k → (j : ℕ) → eqb j k ≡ false → size_at new j ≡ size_at old j
+  sizes-stay new takes j apart = ap (λ (n : Node). n.size) (takes.leaves.others_stay j apart) ∙ takes.joins.sizes_stay j
+
   module _ (low : k < none) where
     within : k < length places
     within = let each : length places ≡ none = kept.each_object in omega arith
@@ -52,9 +56,9 @@ module _ (old : List Node) (places : List ℕ) (none : ℕ) (w p t : Load) (numb
     gone i part differs are = place-set places k 0 within i part (without k part) are (λ q h. among-without k q part h) (differs ∙ sym (gone-without k part))
 
     -- all three lists without it
-    module _ (new : List Node) (joins : Joins old new (before old k) (after old k)) (there : is_among numbers k ≡ true) where
+    module _ (new : List Node) (takes : TakesOut old new k) (there : is_among numbers k ≡ true) where
       ring : IsRing new none (without k numbers)
-      ring = ring-less old none numbers kept.ring k low new there joins
+      ring = ring-less old none numbers kept.ring k low new there takes
 
       wl : window_of none (without k numbers) ≡ without k (window_of none numbers)
       wl = window-less old none numbers kept.ring k low
@@ -82,18 +86,18 @@ module _ (old : List Node) (places : List ℕ) (none : ℕ) (w p t : Load) (numb
 
       -- a list that it isn't in
       pub load-stays : (part : List ℕ) (load : Load) → is_among part k ≡ false → IsLoad old part load → IsLoad new (without k part) load
-      load-stays part load absent is = subst (λ ks. IsLoad new ks load) (sym (without-none k part absent)) (load-same old new part load (entries-same old new joins.sizes_stay part) is)
+      load-stays part load absent is = subst (λ ks. IsLoad new ks load) (sym (without-none k part absent)) (load-same old new part load (entries-but old new k (sizes-stay new takes) part absent) is)
 
       stays : (part : List ℕ) → is_among part k ≡ false → entries_at new (without k part) ≡ entries_at old part
-      stays part absent = ap (entries_at new) (without-none k part absent) ∙ entries-same old new joins.sizes_stay part
+      stays part absent = ap (entries_at new) (without-none k part absent) ∙ entries-but old new k (sizes-stay new takes) part absent
 
       goes : (part : List ℕ) → entries_at new (without k part) ≡ without_entry k (entries_at old part)
-      goes part = entries-same old new joins.sizes_stay (without k part) ∙ sym (entries-without old k part)
+      goes part = entries-but old new k (sizes-stay new takes) (without k part) (without-gone k part) ∙ sym (entries-without old k part)
 
       queues-less : (a b c : List Entry) → entries_at new (without k (window_of none numbers)) ≡ a → entries_at new (without k (probation_of none numbers)) ≡ b → entries_at new (without k (protected_of none numbers)) ≡ c
-          → queues_at new none (without k numbers) ≡ record { objects = none; segments = record { window = a; main = record { probation = b; protected = c } } }
+          → queues_at new none (without k numbers) ≡ record { objects = none; segments = record { window = a; main = record { probation = b; protected = c } }; room = 0 }
       queues-less a b c of_a of_b of_c =
-          let of : List Entry → List Entry → List Entry → Queues = λ x y z. record { objects = none; segments = record { window = x; main = record { probation = y; protected = z } } } in
+          let of : List Entry → List Entry → List Entry → Queues = λ x y z. record { objects = none; segments = record { window = x; main = record { probation = y; protected = z } }; room = 0 } in
           let es : List ℕ → List Entry = entries_at new in
           ap (λ ks. of (es ks) (es (probation_of none (without k numbers))) (es (protected_of none (without k numbers)))) wl
           ∙ ap (λ ks. of (es (without k (window_of none numbers))) (es ks) (es (protected_of none (without k numbers)))) pl
@@ -129,21 +133,21 @@ module _ (old : List Node) (places : List ℕ) (none : ℕ) (w p t : Load) (numb
     pub fits_window : size_at old k ≤ w.bytes
     fits_window = load-has old (window_of none numbers) w k (apart-window old places none w p t numbers kept) there kept.window_is
 
-    module _ (new : List Node) (joins : Joins old new (before old k) (after old k)) where
+    module _ (new : List Node) (takes : TakesOut old new k) where
       pub kept_window : IsKept new (set places k 0) none (record { entries = w.entries - 1; bytes = w.bytes - size_at old k }) p t (without k numbers)
       kept_window =
-          kept-less low_window new joins whole_window (record { entries = w.entries - 1; bytes = w.bytes - size_at old k }) p t
-          (load-less old new (window_of none numbers) w k (apart-window old places none w p t numbers kept) there joins.sizes_stay kept.window_is)
-          (load-stays low_window new joins whole_window (probation_of none numbers) p not_probation_window kept.probation_is)
-          (load-stays low_window new joins whole_window (protected_of none numbers) t not_protected_window kept.protected_is)
+          kept-less low_window new takes whole_window (record { entries = w.entries - 1; bytes = w.bytes - size_at old k }) p t
+          (load-less old new (window_of none numbers) w k (apart-window old places none w p t numbers kept) there (sizes-stay new takes) kept.window_is)
+          (load-stays low_window new takes whole_window (probation_of none numbers) p not_probation_window kept.probation_is)
+          (load-stays low_window new takes whole_window (protected_of none numbers) t not_protected_window kept.protected_is)
 
       pub queues_window : queues_at new none (without k numbers) ≡ with_window (without_entry k (queues_at old none numbers).segments.window) (queues_at old none numbers)
       queues_window =
-          queues-less low_window new joins whole_window (without_entry k (entries_at old (window_of none numbers))) (entries_at old (probation_of none numbers)) (entries_at old (protected_of none numbers))
-          (goes low_window new joins whole_window (window_of none numbers)) (stays low_window new joins whole_window (probation_of none numbers) not_probation_window) (stays low_window new joins whole_window (protected_of none numbers) not_protected_window)
+          queues-less low_window new takes whole_window (without_entry k (entries_at old (window_of none numbers))) (entries_at old (probation_of none numbers)) (entries_at old (protected_of none numbers))
+          (goes low_window new takes whole_window (window_of none numbers)) (stays low_window new takes whole_window (probation_of none numbers) not_probation_window) (stays low_window new takes whole_window (protected_of none numbers) not_protected_window)
 
       pub nowhere_window : has_entry (segment_entries (queues_at new none (without k numbers)).segments) k ≡ false
-      nowhere_window = nowhere low_window new joins whole_window (record { entries = w.entries - 1; bytes = w.bytes - size_at old k }) p t kept_window
+      nowhere_window = nowhere low_window new takes whole_window (record { entries = w.entries - 1; bytes = w.bytes - size_at old k }) p t kept_window
 
   -- ---- out of probation
   module _ (there : is_among (probation_of none numbers) k ≡ true) where
@@ -168,21 +172,21 @@ module _ (old : List Node) (places : List ℕ) (none : ℕ) (w p t : Load) (numb
     pub fits_probation : size_at old k ≤ p.bytes
     fits_probation = load-has old (probation_of none numbers) p k (apart-probation old places none w p t numbers kept) there kept.probation_is
 
-    module _ (new : List Node) (joins : Joins old new (before old k) (after old k)) where
+    module _ (new : List Node) (takes : TakesOut old new k) where
       pub kept_probation : IsKept new (set places k 0) none w (record { entries = p.entries - 1; bytes = p.bytes - size_at old k }) t (without k numbers)
       kept_probation =
-          kept-less low_probation new joins whole_probation w (record { entries = p.entries - 1; bytes = p.bytes - size_at old k }) t
-          (load-stays low_probation new joins whole_probation (window_of none numbers) w not_window_probation kept.window_is)
-          (load-less old new (probation_of none numbers) p k (apart-probation old places none w p t numbers kept) there joins.sizes_stay kept.probation_is)
-          (load-stays low_probation new joins whole_probation (protected_of none numbers) t not_protected_probation kept.protected_is)
+          kept-less low_probation new takes whole_probation w (record { entries = p.entries - 1; bytes = p.bytes - size_at old k }) t
+          (load-stays low_probation new takes whole_probation (window_of none numbers) w not_window_probation kept.window_is)
+          (load-less old new (probation_of none numbers) p k (apart-probation old places none w p t numbers kept) there (sizes-stay new takes) kept.probation_is)
+          (load-stays low_probation new takes whole_probation (protected_of none numbers) t not_protected_probation kept.protected_is)
 
       pub queues_probation : queues_at new none (without k numbers) ≡ with_probation (without_entry k (queues_at old none numbers).segments.main.probation) (queues_at old none numbers)
       queues_probation =
-          queues-less low_probation new joins whole_probation (entries_at old (window_of none numbers)) (without_entry k (entries_at old (probation_of none numbers))) (entries_at old (protected_of none numbers))
-          (stays low_probation new joins whole_probation (window_of none numbers) not_window_probation) (goes low_probation new joins whole_probation (probation_of none numbers)) (stays low_probation new joins whole_probation (protected_of none numbers) not_protected_probation)
+          queues-less low_probation new takes whole_probation (entries_at old (window_of none numbers)) (without_entry k (entries_at old (probation_of none numbers))) (entries_at old (protected_of none numbers))
+          (stays low_probation new takes whole_probation (window_of none numbers) not_window_probation) (goes low_probation new takes whole_probation (probation_of none numbers)) (stays low_probation new takes whole_probation (protected_of none numbers) not_protected_probation)
 
       pub nowhere_probation : has_entry (segment_entries (queues_at new none (without k numbers)).segments) k ≡ false
-      nowhere_probation = nowhere low_probation new joins whole_probation w (record { entries = p.entries - 1; bytes = p.bytes - size_at old k }) t kept_probation
+      nowhere_probation = nowhere low_probation new takes whole_probation w (record { entries = p.entries - 1; bytes = p.bytes - size_at old k }) t kept_probation
 
   -- ---- out of protected
   module _ (there : is_among (protected_of none numbers) k ≡ true) where
@@ -207,21 +211,21 @@ module _ (old : List Node) (places : List ℕ) (none : ℕ) (w p t : Load) (numb
     pub fits_protected : size_at old k ≤ t.bytes
     fits_protected = load-has old (protected_of none numbers) t k (apart-protected old places none w p t numbers kept) there kept.protected_is
 
-    module _ (new : List Node) (joins : Joins old new (before old k) (after old k)) where
+    module _ (new : List Node) (takes : TakesOut old new k) where
       pub kept_protected : IsKept new (set places k 0) none w p (record { entries = t.entries - 1; bytes = t.bytes - size_at old k }) (without k numbers)
       kept_protected =
-          kept-less low_protected new joins whole_protected w p (record { entries = t.entries - 1; bytes = t.bytes - size_at old k })
-          (load-stays low_protected new joins whole_protected (window_of none numbers) w not_window_protected kept.window_is)
-          (load-stays low_protected new joins whole_protected (probation_of none numbers) p not_probation_protected kept.probation_is)
-          (load-less old new (protected_of none numbers) t k (apart-protected old places none w p t numbers kept) there joins.sizes_stay kept.protected_is)
+          kept-less low_protected new takes whole_protected w p (record { entries = t.entries - 1; bytes = t.bytes - size_at old k })
+          (load-stays low_protected new takes whole_protected (window_of none numbers) w not_window_protected kept.window_is)
+          (load-stays low_protected new takes whole_protected (probation_of none numbers) p not_probation_protected kept.probation_is)
+          (load-less old new (protected_of none numbers) t k (apart-protected old places none w p t numbers kept) there (sizes-stay new takes) kept.protected_is)
 
       pub queues_protected : queues_at new none (without k numbers) ≡ with_protected (without_entry k (queues_at old none numbers).segments.main.protected) (queues_at old none numbers)
       queues_protected =
-          queues-less low_protected new joins whole_protected (entries_at old (window_of none numbers)) (entries_at old (probation_of none numbers)) (without_entry k (entries_at old (protected_of none numbers)))
-          (stays low_protected new joins whole_protected (window_of none numbers) not_window_protected) (stays low_protected new joins whole_protected (probation_of none numbers) not_probation_protected) (goes low_protected new joins whole_protected (protected_of none numbers))
+          queues-less low_protected new takes whole_protected (entries_at old (window_of none numbers)) (entries_at old (probation_of none numbers)) (without_entry k (entries_at old (protected_of none numbers)))
+          (stays low_protected new takes whole_protected (window_of none numbers) not_window_protected) (stays low_protected new takes whole_protected (probation_of none numbers) not_probation_protected) (goes low_protected new takes whole_protected (protected_of none numbers))
 
       pub nowhere_protected : has_entry (segment_entries (queues_at new none (without k numbers)).segments) k ≡ false
-      nowhere_protected = nowhere low_protected new joins whole_protected w p (record { entries = t.entries - 1; bytes = t.bytes - size_at old k }) kept_protected
+      nowhere_protected = nowhere low_protected new takes whole_protected w p (record { entries = t.entries - 1; bytes = t.bytes - size_at old k }) kept_protected
 
 -- ---- the first of each part
 module _ (nodes : List Node) (none : ℕ) (numbers : List ℕ) (ring : IsRing nodes none numbers) where

@@ -88,7 +88,7 @@ module _ (objects capacity requests : ℕ) (f : Frequencies) (q : Segments) (k s
       shared_after =
           subst (λ (x : State). IsShared capacity x.entries x.beside) (sym answers.state_is) (shares-step state k size None shared_before)
 
-      pub tinylfu-after : (d : Counted) (t : Queues) → d.objects ≡ t.objects → t.objects ≤ objects → d.frequencies ≡ g → t.segments ≡ s → d.frequencies.asked ≤ 2 ^ 36 → IsTinyLfu objects capacity d t
+      pub tinylfu-after : (d : Counted) (t : Queues) → t.objects ≤ d.objects → d.objects ≤ objects → d.frequencies ≡ g → t.segments ≡ s → d.frequencies.asked ≤ 2 ^ 36 → IsTinyLfu objects capacity d t
       tinylfu-after d t counted within counts moved room =
           let rest : List Entry = s.main.probation ++ s.main.protected in
           let of : List Entry → List Entry → ℕ = λ xs ys. used xs + used ys in

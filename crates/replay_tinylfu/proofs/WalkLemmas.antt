@@ -5,7 +5,7 @@ use Rattle.std.proofs.lemmas.List.{map-append, length-append}
 use Rattle.std.proofs.lemmas.List.Sums.{sum_by-cons, sum_by-append}
 use Rattle.policy_model.specs.States.{Entry, used}
 use Rattle.policy_model.specs.WTinyLfu.{first_with, count_of, main_used}
-use Rattle.replay_queues.specs.declared.nodes.Node.{Node}
+use Rattle.linked_nodes.specs.declared.nodes.Node.{Node}
 use Rattle.replay_queues.specs.Rings.{is_among, Distinct, Links}
 use Rattle.replay_queues.proofs.RingLemmas.{after}
 use Rattle.replay_queues.proofs.GhostAnswers.{size_at}

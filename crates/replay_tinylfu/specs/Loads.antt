@@ -1,7 +1,8 @@
 -- What holds of the ring of W-TinyLFU, and of what is counted beside it.
 use Rattle.std.specs.Prelude.{◌≡◌, ℕ, ◌+◌, ◌<◌, ◌≤◌, ◌^◌, ◌==◌, true, false, List, length, slice_index}
 use Rattle.policy_model.specs.States.{used}
-use Rattle.replay_queues.specs.declared.nodes.Node.{Node}
+use Rattle.linked_nodes.specs.declared.nodes.Node.{Node}
+use Rattle.linked_nodes.specs.Nodes.{Noded}
 use Rattle.replay_queues.specs.Rings.{is_among, Distinct, Links, ring_of}
 use Rattle.replay_tinylfu.specs.declared.ring.Load.{Load}
 use Rattle.replay_tinylfu.specs.Queues.{entries_at, window_of, main_numbers, probation_of, protected_of}
@@ -40,3 +41,9 @@ pub record IsKept (nodes : List Node) (places : List ℕ) (none : ℕ) (window p
   pub window_is : IsLoad nodes (window_of none numbers) window
   pub probation_is : IsLoad nodes (probation_of none numbers) probation
   pub protected_is : IsLoad nodes (protected_of none numbers) protected
+
+-- the same of the ring's own numbers, of which each has a node
+pub record IsHeld (nodes : Noded) (places : List ℕ) (none : ℕ) (window probation protected : Load) : Type 0 where
+  pub kept : IsKept nodes.list places none window probation protected (numbers_of nodes.list none window probation protected)
+  pub counted : nodes.count ≤ window.entries + probation.entries + protected.entries + 3
+  pub fits : window.entries + probation.entries + protected.entries + 3 ≤ nodes.room

@@ -1,7 +1,7 @@
 -- Numbers in a ring that marks among them cut into parts.
 use Rattle.std.specs.Prelude.{ℕ, ◌==◌, if◌then◌else◌, List, [], ◌∷◌}
-use Rattle.replay_queues.specs.declared.nodes.Node.{Node}
-use Rattle.replay_queues.specs.Rings.{node_at, Joins}
+use Rattle.linked_nodes.specs.declared.nodes.Node.{Node}
+use Rattle.linked_nodes.specs.Nodes.{node_at, Joins, Leaves}
 
 -- the numbers before a mark
 abbrev pub up_to : ℕ → List ℕ → List ℕ
@@ -27,3 +27,9 @@ pub record PutsBefore (old new : List Node) (k next : ℕ) : Type 0 where
   pub mid : List Node
   pub first_join : Joins old mid (node_at old next).before k
   pub second_join : Joins mid new k next
+
+-- a node is taken out from between its neighbours, and away
+pub record TakesOut (old new : List Node) (k : ℕ) : Type 0 where
+  pub mid : List Node
+  pub joins : Joins old mid (node_at old k).before (node_at old k).after
+  pub leaves : Leaves mid new k

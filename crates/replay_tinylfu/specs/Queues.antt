@@ -1,17 +1,22 @@
 -- The three queues of W-TinyLFU as nodes keep them.
-use Rattle.std.specs.Prelude.{◌≡◌, ℕ, ◌+◌, ◌<◌, ◌++◌, true, false, List, [], length, map, None}
+use Rattle.std.specs.Prelude.{◌≡◌, ℕ, ◌+◌, ◌<◌, ◌++◌, List, [], length, map, None}
 use Rattle.policy_model.specs.declared.names.PolicyName.TheVariants.{WTinyLfu}
-use Rattle.policy_model.specs.States.{Entry, has_entry}
+use Rattle.policy_model.specs.States.{Entry}
 use Rattle.policy_model.specs.Steps.{fresh_entry}
 use Rattle.policy_model.specs.WTinyLfu.{Main, Segments, count_of, segment_entries}
-use Rattle.replay_queues.specs.declared.nodes.Node.{Node}
-use Rattle.replay_queues.specs.Rings.{node_at}
+use Rattle.linked_nodes.specs.declared.nodes.Node.{Node}
+use Rattle.linked_nodes.specs.Nodes.{node_at}
 use Rattle.replay_tinylfu.specs.Marks.{up_to, past}
 
--- the segments, and a number above that of each object that may be in one
+-- the segments, a number above that of each object that may be in one, and how many there may be
 pub record Queues : Type 0 where
   pub objects : ℕ
   pub segments : Segments
+  pub room : ℕ
+
+-- there is room for one more
+abbrev pub HasSpace : Queues → Type 0
+HasSpace q = length (segment_entries q.segments) < q.room
 
 -- the entry of an object
 abbrev pub plain_entry : ℕ → ℕ → Entry
@@ -39,22 +44,23 @@ abbrev pub queues_by : List Node → ℕ → List ℕ → List ℕ → List ℕ 
 queues_by nodes objects window probation protected = record {
   objects = objects;
   segments = record { window = entries_at nodes window; main = record { probation = entries_at nodes probation; protected = entries_at nodes protected } };
+  room = 0;
 }
 
 abbrev pub queues_at : List Node → ℕ → List ℕ → Queues
 queues_at nodes objects numbers = queues_by nodes objects (window_of objects numbers) (probation_of objects numbers) (protected_of objects numbers)
 
--- queues without an entry
-abbrev pub no_entries : ℕ → Queues
-no_entries objects = record { objects = objects; segments = record { window = []; main = record { probation = []; protected = [] } } }
+-- segments without an entry
+abbrev pub no_segments : Segments
+no_segments = record { window = []; main = record { probation = []; protected = [] } }
 
 -- queues with other segments
 abbrev pub with_segments : Segments → Queues → Queues
-with_segments segments q = record { objects = q.objects; segments = segments }
+with_segments segments q = record q { segments = segments }
 
 -- queues with another main part
 abbrev pub with_main : Main → Queues → Queues
-with_main m q = record { objects = q.objects; segments = record { window = q.segments.window; main = m } }
+with_main m q = record q { segments = record { window = q.segments.window; main = m } }
 
 -- the entries of the main part, those on probation first
 abbrev pub main_entries : Queues → List Entry
@@ -67,14 +73,10 @@ pub record DisplacesAll (counts : List ℕ) (leaving : List Entry) (count entrie
 
 -- queues of which one is another
 abbrev pub with_window : List Entry → Queues → Queues
-with_window entries q = record { objects = q.objects; segments = record { window = entries; main = q.segments.main } }
+with_window entries q = record q { segments = record { window = entries; main = q.segments.main } }
 
 abbrev pub with_probation : List Entry → Queues → Queues
 with_probation entries q = with_main (record { probation = entries; protected = q.segments.main.protected }) q
 
 abbrev pub with_protected : List Entry → Queues → Queues
 with_protected entries q = with_main (record { probation = q.segments.main.probation; protected = entries }) q
-
--- no object is in both
-abbrev pub AreApart : Queues → Queues → Type 0
-AreApart q r = (k : ℕ) → has_entry (segment_entries q.segments) k ≡ true → has_entry (segment_entries r.segments) k ≡ false

@@ -1,5 +1,5 @@
 -- What W-TinyLFU keeps.
-use Rattle.std.specs.Prelude.{◌≡◌, ℕ, ◌≤◌, ◌^◌}
+use Rattle.std.specs.Prelude.{ℕ, ◌≤◌, ◌^◌}
 use Rattle.policy_model.specs.States.{used, IsFit}
 use Rattle.policy_model.specs.WTinyLfu.{Segments, Frequencies, window_part, main_part, main_used, segment_entries, stock_of_segments}
 use Rattle.replay_core.specs.Keeping.{Kept}
@@ -15,8 +15,8 @@ kept_of objects capacity requests f q =
 pub record IsTinyLfu (objects capacity : ℕ) (c : Counted) (r : Queues) : Type 0 where
   pub range : capacity ≤ 2 ^ 56
   pub few : objects ≤ 2 ^ 31
-  pub counted : c.objects ≡ r.objects
-  pub within : r.objects ≤ objects
+  pub counted : r.objects ≤ c.objects
+  pub within : c.objects ≤ objects
   pub room : c.frequencies.asked ≤ 2 ^ 36
   pub fits : IsFit capacity (segment_entries r.segments)
   pub window : used r.segments.window ≤ window_part capacity

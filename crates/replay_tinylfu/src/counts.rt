@@ -11,7 +11,7 @@ use std::marker::Model;
 const MOST: u8 = 15;
 
 // So many halvings leave nothing of a count.
-const ALL: u32 = 4;
+const ALL: u16 = 4;
 
 // Requests for each entry, and the fewest entries that are reckoned with, before the counts are halved.
 const REQUESTS: u64 = 10;
@@ -23,10 +23,10 @@ const ENTRIES: u64 = 16;
 #[derive(Drop)]
 pub(crate) struct Counts {
     counts: Vec<u8>,
-    seen: Vec<u32>,
+    seen: Vec<u16>,
     // A number above that of each object that was asked for.
     known: u32,
-    halvings: u32,
+    halvings: u16,
     asked: u64,
 }
 
@@ -43,7 +43,7 @@ impl Model for Counts {
 
 // What this many halvings leave of a count.
 #[inline(always)]
-fn faded(count: u8, halvings: u32) -> u8
+fn faded(count: u8, halvings: u16) -> u8
     requires { count ≤ 15 }
     ensures { result ≡ count / 2 ^ halvings }
 {
@@ -51,7 +51,7 @@ fn faded(count: u8, halvings: u32) -> u8
 }
 
 // Does the halvings that each count has yet to see.
-fn settle(counts: &mut Vec<u8>, seen: &mut Vec<u32>, halvings: u32)
+fn settle(counts: &mut Vec<u8>, seen: &mut Vec<u16>, halvings: u16)
     requires each_seen { length seen.old.items ≡ length counts.old.items }
     requires small { (k : ℕ) → slice_index counts.old.items k ≤ 15 }
     requires past { (k : ℕ) → slice_index seen.old.items k ≤ halvings }
@@ -64,19 +64,19 @@ fn settle(counts: &mut Vec<u8>, seen: &mut Vec<u32>, halvings: u32)
     }
 }
 
-// The same counts, and zeros up to this length.
-fn longer_counts(alloc: Global, counts: &Vec<u8>, objects: u32) -> Result<Vec<u8>, NoMemory>
-    requires { length counts.now.items ≤ objects }
-    ensures { IfOk result (λ longer. longer.items ≡ counts.now.items ++ replicate (objects - length counts.now.items) 0) }
+/// The same bytes, and zeros up to this length.
+pub(crate) fn longer(alloc: Global, bytes: &Vec<u8>, objects: u32) -> Result<Vec<u8>, NoMemory>
+    requires { length bytes.now.items ≤ objects }
+    ensures { IfOk result (λ longer. longer.items ≡ bytes.now.items ++ replicate (objects - length bytes.now.items) 0) }
 {
     let mut longer = Vec::with_capacity(alloc, objects as usize)?;
-    longer.extend_from_slice(counts)?;
+    longer.extend_from_slice(bytes)?;
     longer.resize(objects as usize, 0)?;
     Ok(longer)
 }
 
 // The same halvings, and zeros up to this length.
-fn longer_seen(alloc: Global, seen: &Vec<u32>, objects: u32) -> Result<Vec<u32>, NoMemory>
+fn longer_seen(alloc: Global, seen: &Vec<u16>, objects: u32) -> Result<Vec<u16>, NoMemory>
     requires { length seen.now.items ≤ objects }
     ensures { IfOk result (λ longer. longer.items ≡ seen.now.items ++ replicate (objects - length seen.now.items) 0) }
 {
@@ -87,7 +87,7 @@ fn longer_seen(alloc: Global, seen: &Vec<u32>, objects: u32) -> Result<Vec<u32>,
 }
 
 impl Counts {
-    /// No requests, for objects numbered below this. It takes 5 bytes for each.
+    /// No requests, for objects numbered below this. It takes 3 bytes for each.
     pub(crate) fn new(alloc: Global, objects: u32) -> Result<Self, NoMemory>
         requires few { objects ≤ 2 ^ 31 }
         ensures { IfOk result (λ counts. counts ≡ no_counts objects) }
@@ -101,6 +101,13 @@ impl Counts {
         })
     }
 
+    /// The number of objects that there is room for.
+    pub(crate) fn objects(&self) -> u32
+        ensures { result ≡ self.now.objects }
+    {
+        self.counts.len() as u32
+    }
+
     /// Makes room for objects numbered below this.
     pub(crate) fn grow(&mut self, alloc: Global, objects: u32) -> Result<(), NoMemory>
         requires more { self.old.objects ≤ objects }
@@ -108,7 +115,7 @@ impl Counts {
         ensures grown { OnOk result (self.new ≡ record self.old { objects = objects }) }
         ensures stays { OnErr result (self.new ≡ self.old) }
     {
-        let counts = longer_counts(alloc, &self.counts, objects)?;
+        let counts = longer(alloc, &self.counts, objects)?;
         let seen = longer_seen(alloc, &self.seen, objects)?;
         self.counts = counts;
         self.seen = seen;
@@ -129,7 +136,7 @@ impl Counts {
     fn halve(&mut self)
         ensures { self.new ≡ with_frequencies (halve self.old.frequencies) self.old }
     {
-        if self.halvings == u32::MAX {
+        if self.halvings == u16::MAX {
             settle(&mut self.counts, &mut self.seen, self.halvings);
             self.halvings = 0;
         }

@@ -4,7 +4,7 @@ ghost use Rattle.policy_model.specs.States.{used, has_entry};
 ghost use Rattle.policy_model.specs.Steps.{without_entry};
 ghost use Rattle.policy_model.specs.Leaving.{segments_without};
 ghost use Rattle.policy_model.specs.WTinyLfu.{window_part, main_part, main_used, entry_of, demote, hit_main, hit_in, without_first, admit, spill, missed_in, segment_entries};
-ghost use Rattle.replay_tinylfu.specs.Queues.{plain_entry, with_main, with_segments, with_window, with_protected, main_entries};
+ghost use Rattle.replay_tinylfu.specs.Queues.{plain_entry, with_main, with_segments, with_window, with_protected, main_entries, HasSpace};
 
 use crate::counts::Counts;
 use crate::ring::{PROBATION, PROTECTED, Ring, WINDOW};
@@ -71,6 +71,7 @@ fn admit(ring: &mut Ring, counts: &Counts, most: u64, object: u32, size: u64)
     requires known { object < ring.old.objects }
     requires counted { ring.old.objects ≤ counts.now.objects }
     requires absent { has_entry (segment_entries ring.old.segments) object ≡ false }
+    requires space { HasSpace ring.old }
     requires range { most ≤ 2 ^ 56 }
     requires fits { main_used ring.old.segments.main ≤ most }
     ensures { ring.new ≡ with_main (admit most counts.now.frequencies.counts (plain_entry object size) ring.old.segments.main) ring.old }
@@ -108,6 +109,7 @@ pub(crate) fn miss(ring: &mut Ring, counts: &Counts, window: u64, most: u64, obj
     requires known { object < ring.old.objects }
     requires counted { ring.old.objects ≤ counts.now.objects }
     requires absent { has_entry (segment_entries ring.old.segments) object ≡ false }
+    requires space { HasSpace ring.old }
     requires range { (window ≤ 2 ^ 56) × (most ≤ 2 ^ 56) }
     requires fits { (used ring.old.segments.window ≤ window) × (main_used ring.old.segments.main ≤ most) }
     ensures { ring.new ≡ with_segments (missed_in window most counts.now.frequencies.counts (plain_entry object size) ring.old.segments) ring.old }

@@ -1,20 +1,23 @@
 //! The three queues, in one ring.
-ghost use Rattle.std.specs.Prelude.{◌≡◌, ◌≤◌, ◌<◌, ◌+◌, ◌^◌, ◌++◌, ◌∷◌, ◌==◌, [], true, false, length, drop, nat_lt, slice_index, IfOk, MatchOption};
+ghost use Rattle.std.specs.Prelude.{◌≡◌, ◌≤◌, ◌<◌, ◌+◌, ◌^◌, ◌++◌, ◌∷◌, ◌==◌, [], true, false, length, drop, nat_lt, slice_index, IfOk, OnOk, OnErr, MatchOption};
 ghost use Rattle.policy_model.specs.States.{used, has_entry};
 ghost use Rattle.policy_model.specs.Steps.{without_entry};
 ghost use Rattle.policy_model.specs.WTinyLfu.{main_used, entry_of, segment_entries, first_with, count_of};
-ghost use Rattle.replay_queues.specs.Rings.{node_at, Joins};
-ghost use Rattle.replay_tinylfu.specs.Marks.{PutsBefore, follow};
-ghost use Rattle.replay_tinylfu.specs.Queues.{plain_entry, no_entries, with_window, with_probation, with_protected, main_entries, DisplacesAll};
+ghost use Rattle.linked_nodes.specs.Nodes.{node_at, IsThere};
+ghost use Rattle.replay_tinylfu.specs.Marks.{PutsBefore, TakesOut, follow};
+ghost use Rattle.replay_tinylfu.specs.Queues.{plain_entry, no_segments, with_window, with_probation, with_protected, main_entries, DisplacesAll, HasSpace};
 
-use crate::counts::Counts;
+use crate::counts::{Counts, longer};
 use bound_base::NoMemory;
-use replay_queues::{Node, join, note_size};
+use linked_nodes::{Node, Nodes};
 use std::alloc::Global;
 use std::marker::Model;
 
 // The byte of an object that is in none of the queues, in the window, on probation, and protected.
 const NOWHERE: u8 = 0;
+
+// How many nodes there may be beside those of the entries: the marks, and one more.
+const MORE: usize = 4;
 
 /// The place of an object in the window.
 pub(crate) const WINDOW: u8 = 1;
@@ -38,7 +41,7 @@ struct Load {
 /// probation after the second, and the protected ones after the third.
 #[derive(Drop)]
 pub(crate) struct Ring {
-    nodes: Vec<Node>,
+    nodes: Nodes,
     places: Vec<u8>,
     objects: u32,
     window: Load,
@@ -51,55 +54,62 @@ impl Model for Ring {
 
     ghost Value = { Queues };
 
-    ghost use Rattle.replay_tinylfu.specs.Loads.{numbers_of, IsKept};
+    ghost use Rattle.replay_tinylfu.specs.Loads.{numbers_of, IsHeld};
     ghost use Rattle.replay_tinylfu.specs.Queues.{queues_at};
+    ghost use Rattle.std.specs.Prelude.{◌-◌};
 
-    ghost view = { λ r. queues_at r.nodes.items r.objects (numbers_of r.nodes.items r.objects r.window r.probation r.protected) };
+    ghost view = { λ r. record (queues_at r.nodes.list r.objects (numbers_of r.nodes.list r.objects r.window r.probation r.protected)) { room = r.nodes.room - 3 } };
 
-    ghost invariant = { λ r. IsKept r.nodes.items r.places.items r.objects r.window r.probation r.protected (numbers_of r.nodes.items r.objects r.window r.probation r.protected) };
+    ghost invariant = { λ r. IsHeld r.nodes r.places.items r.objects r.window r.probation r.protected };
 }
 
-// Puts an object that stands nowhere before another node.
+// Puts an object that has a node and stands nowhere before another node.
 #[inline(always)]
-fn put_before(nodes: &mut Vec<Node>, object: u32, next: u32)
-    requires object { object < length nodes.old.items }
-    requires next { next < length nodes.old.items }
-    requires last { (node_at nodes.old.items next).before < length nodes.old.items }
-    ensures { PutsBefore nodes.old.items nodes.new.items object next }
+fn put_before(nodes: &mut Nodes, object: u32, next: u32)
+    requires object { IsThere nodes.old.list object }
+    requires next { IsThere nodes.old.list next }
+    requires last { IsThere nodes.old.list (node_at nodes.old.list next).before }
+    ensures puts { PutsBefore nodes.old.list nodes.new.list object next }
+    ensures count { nodes.new.count ≡ nodes.old.count }
+    ensures room { nodes.new.room ≡ nodes.old.room }
 {
-    let last = nodes[next as usize].before;
-    join(nodes, last, object);
-    join(nodes, object, next);
+    let last = nodes.get(next).before;
+    nodes.join(last, object);
+    nodes.join(object, next);
 }
 
-// Takes a node out of the ring, and says its size.
+// Takes an object out of the ring, and its node away, and says its size.
 #[inline(always)]
-fn unlink(nodes: &mut Vec<Node>, object: u32) -> u64
-    requires object { object < length nodes.old.items }
-    requires before { (node_at nodes.old.items object).before < length nodes.old.items }
-    requires after { (node_at nodes.old.items object).after < length nodes.old.items }
-    ensures joins { Joins nodes.old.items nodes.new.items (node_at nodes.old.items object).before (node_at nodes.old.items object).after }
-    ensures size { result ≡ (node_at nodes.old.items object).size }
+fn take_out(nodes: &mut Nodes, object: u32) -> u64
+    requires known { object + 3 < length nodes.old.list }
+    requires object { IsThere nodes.old.list object }
+    requires before { IsThere nodes.old.list (node_at nodes.old.list object).before }
+    requires after { IsThere nodes.old.list (node_at nodes.old.list object).after }
+    ensures takes { TakesOut nodes.old.list nodes.new.list object }
+    ensures size { result ≡ (node_at nodes.old.list object).size }
+    ensures count { nodes.new.count + 1 ≡ nodes.old.count }
+    ensures room { nodes.new.room ≡ nodes.old.room }
 {
     let Node {
         before,
         after,
         size,
-    } = nodes[object as usize];
-    join(nodes, before, after);
+    } = nodes.get(object);
+    nodes.join(before, after);
+    nodes.leave(object);
     size
 }
 
 // The node after this one, or after the mark if the mark is next.
 #[inline(always)]
-fn next_but(nodes: &Vec<Node>, node: u32, mark: u32) -> u32
-    requires node { node < length nodes.now.items }
-    requires mark { mark < length nodes.now.items }
-    ensures { result ≡ follow nodes.now.items mark node }
+fn next_but(nodes: &Nodes, node: u32, mark: u32) -> u32
+    requires node { node < length nodes.now.list }
+    requires mark { mark < length nodes.now.list }
+    ensures { result ≡ follow nodes.now.list mark node }
 {
-    let next = nodes[node as usize].after;
+    let next = nodes.get(node).after;
     if next == mark {
-        nodes[mark as usize].after
+        nodes.get(mark).after
     } else {
         next
     }
@@ -114,32 +124,52 @@ fn place_at(places: &Vec<u8>, object: u32) -> u8
 }
 
 impl Ring {
-    /// Empty, for objects numbered below this. It takes 17 bytes for each.
-    pub(crate) fn new(alloc: Global, objects: u32) -> Result<Self, NoMemory>
-        requires few { objects ≤ 2 ^ 31 }
-        ensures { IfOk result (λ ring. ring ≡ no_entries objects) }
+    /// Empty, with a place for no object.
+    pub(crate) fn new(alloc: Global) -> Result<Self, NoMemory>
+        ensures objects { IfOk result (λ ring. ring.objects ≡ 0) }
+        ensures segments { IfOk result (λ ring. ring.segments ≡ no_segments) }
     {
-        let node = Node {
-            before: objects,
-            after: objects,
-            size: 0,
-        };
-        let mut nodes = vec![in alloc; node; objects as usize + 3]?;
-        join(&mut nodes, objects, objects + 1);
-        join(&mut nodes, objects + 1, objects + 2);
-        join(&mut nodes, objects + 2, objects);
+        let mut nodes = Nodes::new(alloc)?;
+        nodes.join(0, 1);
+        nodes.join(1, 2);
+        nodes.join(2, 0);
         let none = Load {
             entries: 0,
             bytes: 0,
         };
         Ok(Ring {
             nodes,
-            places: vec![in alloc; NOWHERE; objects as usize]?,
-            objects,
+            places: Vec::new(alloc),
+            objects: 0,
             window: none,
             probation: none,
             protected: none,
         })
+    }
+
+    /// Makes room for one more of the objects that have a place.
+    pub(crate) fn reserve(&mut self) -> Result<(), NoMemory>
+        ensures same { self.new ≡ record self.old { room = self.new.room } }
+        ensures space { OnOk result (HasSpace self.new) }
+    {
+        let nodes = self.len() as usize + MORE;
+        self.nodes.reserve(nodes)?;
+        Ok(())
+    }
+
+    /// Gives objects numbered below this a place, and makes room for one more.
+    pub(crate) fn grow(&mut self, alloc: Global, objects: u32) -> Result<(), NoMemory>
+        requires more { self.old.objects ≤ objects }
+        ensures ring { OnOk result (self.new ≡ record self.old { objects = objects; room = self.new.room }) }
+        ensures same { OnErr result (self.new ≡ record self.old { room = self.new.room }) }
+        ensures space { OnOk result (HasSpace self.new) }
+    {
+        let places = longer(alloc, &self.places, objects)?;
+        let nodes = self.len() as usize + MORE;
+        self.nodes.grow(objects, nodes)?;
+        self.places = places;
+        self.objects = objects;
+        Ok(())
     }
 
     /// Where an object stands.
@@ -240,7 +270,7 @@ impl Ring {
             if sum >= count as u64 {
                 return None;
             }
-            freed += self.nodes[object as usize].size;
+            freed += self.nodes.get(object).size;
             entries += 1;
             object = next_but(&self.nodes, object, mark);
         }
@@ -251,10 +281,11 @@ impl Ring {
     pub(crate) fn push_window(&mut self, object: u32, size: u64)
         requires known { object < self.old.objects }
         requires absent { has_entry (segment_entries self.old.segments) object ≡ false }
+        requires space { HasSpace self.old }
         requires fits { used self.old.segments.window + size < 2 ^ 64 }
         ensures { self.new ≡ with_window (self.old.segments.window ++ plain_entry object size ∷ []) self.old }
     {
-        note_size(&mut self.nodes, object, size);
+        self.nodes.enter(object, size);
         put_before(&mut self.nodes, object, self.objects + 1);
         self.places[object as usize] = WINDOW;
         self.window.entries += 1;
@@ -265,10 +296,11 @@ impl Ring {
     pub(crate) fn push_probation(&mut self, object: u32, size: u64)
         requires known { object < self.old.objects }
         requires absent { has_entry (segment_entries self.old.segments) object ≡ false }
+        requires space { HasSpace self.old }
         requires fits { used self.old.segments.main.probation + size < 2 ^ 64 }
         ensures { self.new ≡ with_probation (self.old.segments.main.probation ++ plain_entry object size ∷ []) self.old }
     {
-        note_size(&mut self.nodes, object, size);
+        self.nodes.enter(object, size);
         put_before(&mut self.nodes, object, self.objects + 2);
         self.places[object as usize] = PROBATION;
         self.probation.entries += 1;
@@ -279,10 +311,11 @@ impl Ring {
     pub(crate) fn push_protected(&mut self, object: u32, size: u64)
         requires known { object < self.old.objects }
         requires absent { has_entry (segment_entries self.old.segments) object ≡ false }
+        requires space { HasSpace self.old }
         requires fits { used self.old.segments.main.protected + size < 2 ^ 64 }
         ensures { self.new ≡ with_protected (self.old.segments.main.protected ++ plain_entry object size ∷ []) self.old }
     {
-        note_size(&mut self.nodes, object, size);
+        self.nodes.enter(object, size);
         put_before(&mut self.nodes, object, self.objects);
         self.places[object as usize] = PROTECTED;
         self.protected.entries += 1;
@@ -296,8 +329,9 @@ impl Ring {
         ensures size { entry_of object self.old.segments.window ≡ plain_entry object result ∷ [] }
         ensures absent { has_entry (segment_entries self.new.segments) object ≡ false }
         ensures known { object < self.old.objects }
+        ensures space { HasSpace self.new }
     {
-        let size = unlink(&mut self.nodes, object);
+        let size = take_out(&mut self.nodes, object);
         self.places[object as usize] = NOWHERE;
         self.window.entries -= 1;
         self.window.bytes -= size;
@@ -311,8 +345,9 @@ impl Ring {
         ensures size { entry_of object self.old.segments.main.probation ≡ plain_entry object result ∷ [] }
         ensures absent { has_entry (segment_entries self.new.segments) object ≡ false }
         ensures known { object < self.old.objects }
+        ensures space { HasSpace self.new }
     {
-        let size = unlink(&mut self.nodes, object);
+        let size = take_out(&mut self.nodes, object);
         self.places[object as usize] = NOWHERE;
         self.probation.entries -= 1;
         self.probation.bytes -= size;
@@ -326,8 +361,9 @@ impl Ring {
         ensures size { entry_of object self.old.segments.main.protected ≡ plain_entry object result ∷ [] }
         ensures absent { has_entry (segment_entries self.new.segments) object ≡ false }
         ensures known { object < self.old.objects }
+        ensures space { HasSpace self.new }
     {
-        let size = unlink(&mut self.nodes, object);
+        let size = take_out(&mut self.nodes, object);
         self.places[object as usize] = NOWHERE;
         self.protected.entries -= 1;
         self.protected.bytes -= size;
@@ -341,8 +377,9 @@ impl Ring {
         ensures rest { self.new ≡ with_window (drop 1 self.old.segments.window) self.old }
         ensures absent { has_entry (segment_entries self.new.segments) result.0 ≡ false }
         ensures known { result.0 < self.old.objects }
+        ensures space { HasSpace self.new }
     {
-        let object = self.nodes[self.objects as usize].after;
+        let object = self.nodes.get(self.objects).after;
         let size = self.take_window(object);
         (object, size)
     }
@@ -354,8 +391,9 @@ impl Ring {
         ensures rest { self.new ≡ with_probation (drop 1 self.old.segments.main.probation) self.old }
         ensures absent { has_entry (segment_entries self.new.segments) result.0 ≡ false }
         ensures known { result.0 < self.old.objects }
+        ensures space { HasSpace self.new }
     {
-        let object = self.nodes[(self.objects + 1) as usize].after;
+        let object = self.nodes.get(self.objects + 1).after;
         let size = self.take_probation(object);
         (object, size)
     }
@@ -367,8 +405,9 @@ impl Ring {
         ensures rest { self.new ≡ with_protected (drop 1 self.old.segments.main.protected) self.old }
         ensures absent { has_entry (segment_entries self.new.segments) result.0 ≡ false }
         ensures known { result.0 < self.old.objects }
+        ensures space { HasSpace self.new }
     {
-        let object = self.nodes[(self.objects + 2) as usize].after;
+        let object = self.nodes.get(self.objects + 2).after;
         let size = self.take_protected(object);
         (object, size)
     }

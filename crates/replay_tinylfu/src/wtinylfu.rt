@@ -24,9 +24,8 @@ use std::marker::Model;
 /// There an object is on probation until it is asked for, and is then protected, as long as all that are protected have no
 /// more than eight tenths of the main part. Counts are at most 15, and are halved at times.
 ///
-/// A request takes constant time on average, but for the objects whose counts a candidate is compared with. It takes 22
-/// bytes for each object that came in, and up to a quarter more, if objects are numbered in the order in which they come. As
-/// it makes room for more, it takes both for a moment.
+/// A request takes constant time on average, but for the objects whose counts a candidate is compared with. It takes 8
+/// bytes for each object up to the greatest that came in, and 24 for each that it holds, with room for more of both.
 #[derive(Drop)]
 pub struct WTinyLfu {
     capacity: u64,
@@ -83,7 +82,7 @@ impl WTinyLfu {
             objects,
             requests: 0,
             counts,
-            ring: Ring::new(alloc, 0)?,
+            ring: Ring::new(alloc)?,
         })
     }
 

@@ -3,5 +3,7 @@
 #![tactic(auto)]
 
 mod list;
+mod slots;
 
 pub use list::SparseList;
+pub use slots::SlotList;

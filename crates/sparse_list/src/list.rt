@@ -1,5 +1,6 @@
 //! The list, as a place for each number and cells at the places.
 ghost use Rattle.std.specs.Prelude.{◌≡◌, ◌≢◌, ◌+◌, ◌-◌, ◌<◌, ◌≤◌, ◌++◌, ◌∷◌, [], length, replicate, slice_set, OnOk, OnErr};
+ghost use Rattle.std.specs.Vec.{vec_capacity, vec_len};
 ghost use Rattle.sparse_list.specs.Sparse.{cells_without, item_at, last_cell, place_at, up_to};
 
 use bound_base::NoMemory;
@@ -8,9 +9,9 @@ use std::marker::Model;
 
 // A value, and the number that it is of.
 #[derive(Clone, Copy)]
-struct Cell<X> {
-    owner: u32,
-    value: X,
+pub(crate) struct Cell<X> {
+    pub(crate) owner: u32,
+    pub(crate) value: X,
 }
 
 /// Values by number, of which most are that for none. A number for which no value was put has that one.
@@ -36,7 +37,7 @@ impl<X> Model for SparseList<X> {
 
 // The place of a number, which is 0 for none.
 #[inline(always)]
-fn place_of(places: &Vec<u32>, number: u32) -> u32
+pub(crate) fn place_of(places: &Vec<u32>, number: u32) -> u32
     ensures { result ≡ place_at places.now.items number }
 {
     if (number as usize) < places.len() {
@@ -47,7 +48,7 @@ fn place_of(places: &Vec<u32>, number: u32) -> u32
 }
 
 // Makes places up to that of a number.
-fn reach(places: &mut Vec<u32>, number: u32) -> Result<(), NoMemory>
+pub(crate) fn reach(places: &mut Vec<u32>, number: u32) -> Result<(), NoMemory>
     ensures reached { OnOk result (places.new.items ≡ places.old.items ++ replicate (number + 1 - length places.old.items) 0) }
     ensures stays { OnErr result (places.new.items ≡ places.old.items) }
 {
@@ -83,11 +84,18 @@ fn add_cell<X: Copy>(
 }
 
 // Takes the cell at a place away, into which the last one moves.
-fn take_cell<X: Copy>(none: X, cells: &mut Vec<Cell<X>>, places: &mut Vec<u32>, place: u32)
+pub(crate) fn take_cell<X: Copy>(
+    none: X,
+    cells: &mut Vec<Cell<X>>,
+    places: &mut Vec<u32>,
+    place: u32,
+)
     requires there { (0 < place) × (place ≤ length cells.old.items) }
     requires placed { (last_cell none cells.old.items).owner < length places.old.items }
     ensures cells { cells.new.items ≡ cells_without none (place - 1) cells.old.items }
     ensures places { places.new.items ≡ slice_set places.old.items (last_cell none cells.old.items).owner place }
+    ensures len { vec_len cells.new + 1 ≡ vec_len cells.old }
+    ensures capacity { vec_capacity cells.new ≡ vec_capacity cells.old }
 {
     let Some(last) = cells.pop() else {
         return;

@@ -19,6 +19,7 @@ loop-ring-preserved c =
     let fits : main_used q.segments.main ≤ c.args.most = c.loop-ring.invariant.fits in
     record {
       objects = ap (λ (r : Queues). r.objects) c.admit.ensures ∙ ap (λ (r : Queues). r.objects) c.pop_window-object.ensures.rest ∙ c.loop-ring.invariant.objects;
+      room = ap (λ (r : Queues). r.room) c.admit.ensures ∙ ap (λ (r : Queues). r.room) c.pop_window-object.ensures.rest ∙ c.loop-ring.invariant.room;
       segments = ap (λ (r : Queues). of r.segments.window r.segments.main) c.admit.ensures
           ∙ ap (λ m. of left.segments.window (admit c.args.most counts e m)) same
           ∙ sym (spill-over c.args.window c.args.most counts e left.segments.window q.segments.main over)
@@ -30,6 +31,7 @@ pub returns : goal.returns
 returns c =
     let q : Queues = c.loop-ring.ring in
     let old : Queues = c.args.ring.now in
-    let of : Segments → Queues = λ s. record { objects = old.objects; segments = s } in
-    ap (λ o. record { objects = o; segments = q.segments }) c.loop-ring.invariant.objects
+    let of : Segments → Queues = λ s. record { objects = old.objects; segments = s; room = old.room } in
+    ap (λ o. record { objects = o; segments = q.segments; room = q.room }) c.loop-ring.invariant.objects
+    ∙ ap (λ r. record { objects = old.objects; segments = q.segments; room = r }) c.loop-ring.invariant.room
     ∙ ap of (sym (spill-fits c.args.window c.args.most c.args.counts.now.frequencies.counts q.segments.window q.segments.main (omega (arith, c.window_bytes.ensures, c.loop-ring-test.false))) ∙ c.loop-ring.invariant.segments)

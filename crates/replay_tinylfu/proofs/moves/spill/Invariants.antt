@@ -5,6 +5,7 @@ use Rattle.replay_tinylfu.proofs.moves.spill.Given as goal
 abbrev pub invariant-loop-ring : goal.invariant-loop-ring
 invariant-loop-ring l = record {
   objects : l.ring.objects ≡ l.initial.ring.objects;
+  room : l.ring.room ≡ l.initial.ring.room;
   segments : spill l.window l.most l.counts.frequencies.counts l.ring.segments.window l.ring.segments.main ≡ spill l.window l.most l.counts.frequencies.counts l.initial.ring.segments.window l.initial.ring.segments.main;
   fits : main_used l.ring.segments.main ≤ l.most;
 }

@@ -15,6 +15,8 @@ loop-left-init c =
       within = c.requires.within;
       held = c.requires.held;
       table = refl;
+      few = omega arith;
+      room = refl;
       looks = (2 * length ((cut_at h).behind ++ (cut_at h).ahead) + 1, enough_looks (cut_at h), refl);
     }
 
@@ -34,6 +36,8 @@ loop-left-preserved c =
       within = omega arith;
       held = c.look-left.ensures.held;
       table = c.look-left.ensures.table ∙ c.loop-left.invariant.table;
+      few = omega (arith, c.look-left.ensures.few, c.loop-left.invariant.few);
+      room = c.look-left.ensures.room ∙ c.loop-left.invariant.room;
       looks = look_step c.args.capacity c.args.size c.loop-left.invariant.looks.0 cut after
           (with_room c.args.capacity c.args.size (cut_at h))
           c.look-left.ensures.cut (omega arith) (omega arith) c.loop-left.invariant.looks.1 c.loop-left.invariant.looks.2;

@@ -11,6 +11,8 @@ invariant-loop-left l = record {
   within : l.left ≤ l.capacity;
   held : IsHand l.self;
   table : length l.self.table ≡ length l.initial.self.table;
+  few : length l.self.line.members ≤ length l.initial.self.line.members;
+  room : l.self.line.room ≡ l.initial.self.line.room;
   looks : (n : ℕ) × (looks_left (cut_at l.self) ≤ n) × (until_fits look cut_used l.capacity l.size n (cut_at l.self)
       ≡ with_room l.capacity l.size (cut_at l.initial.self));
 }

@@ -1,75 +1,102 @@
-use Rattle.std.proofs.Common.{◌≡◌, ℕ, ◌+◌, ◌<◌, ◌∙◌, sym, ap, subst, false, slice_index_or, List, ◌∷◌, ◌++◌, length, arith}
+use Rattle.std.proofs.Common.{◌≡◌, ℕ, ◌+◌, ◌-◌, ◌<◌, ◌∙◌, sym, ap, subst, false, List, ◌∷◌, ◌++◌, length, arith}
 use Rattle.policy_model.specs.States.{Member, member}
-use Rattle.replay_queues.specs.declared.nodes.Node.{Node}
+use Rattle.linked_nodes.specs.declared.nodes.Node.{Node}
+use Rattle.linked_nodes.specs.Nodes.{IsThere, Joins}
 use Rattle.replay_queues.specs.Lines.{Lined, before_object, from_object, first_of}
-use Rattle.replay_queues.specs.Rings.{node_at, Joins, ring_members}
-use Rattle.replay_queues.proofs.RingLemmas.{before}
-use Rattle.replay_queues.proofs.GhostAnswers.{node_read, view-below, view-among, count-few}
-use Rattle.replay_queues.proofs.PutLemmas.{put-ring, put-at, next-within, before-next-within}
+use Rattle.replay_queues.specs.Rings.{ring_members}
+use Rattle.replay_queues.proofs.GhostAnswers.{count-few, joins-there, ring-there, view-among, view-below, view-length}
+use Rattle.replay_queues.proofs.PutLemmas.{last-there, next-among, next-there, put-at, put-ring}
 use Rattle.replay_queues.proofs.line.Line.put.Goals as goal
 
 -- the number before which it is put begins what follows
-begins : (nodes : List Node) (none count : ℕ) (old : Lined) (next : ℕ) → record { objects = none; members = ring_members nodes none count } ≡ old → next ≡ first_of old.objects (from_object next old.members)
+begins : (nodes : List Node) (none count room : ℕ) (old : Lined) (next : ℕ) → record { objects = none; members = ring_members nodes none count; room = room } ≡ old → next ≡ first_of old.objects (from_object next old.members)
     → next ≡ first_of none (from_object next (ring_members nodes none count))
-begins nodes none count old next view is = is ∙ ap (λ (g : Lined). first_of g.objects (from_object next g.members)) (sym view)
+begins nodes none count room old next view is = is ∙ ap (λ (g : Lined). first_of g.objects (from_object next g.members)) (sym view)
 
-pub index-requires : goal.index-requires
-index-requires c =
+pub enter-requires : goal.enter-requires
+enter-requires c =
     let p = c.self.inside in
-    let low : c.args.next < p.objects + 1 = next-within p.nodes.items p.objects p.count c.args.next c.self.invariant (begins p.nodes.items p.objects p.count c.args.self.now c.args.next c.self.view_is c.requires.next) in
-    let each : length c.note_size.new.nodes.items ≡ p.objects + 1 = c.note_size.ensures.nodes_stay ∙ c.self.invariant.each_node in
-    omega (arith, c.note_size.new.nodes.ok.0)
+    let low : c.args.object < p.objects = view-below p.nodes.list p.objects p.count (p.nodes.room - 3) c.args.self.now c.self.invariant.ring c.self.view_is c.args.object c.requires.within in
+    let each : length p.nodes.list ≡ p.objects + 3 = c.self.invariant.ring.each_node in
+    record {
+      known = omega arith;
+      space = omega (
+        arith,
+        c.requires.space,
+        view-length p.nodes.list p.objects p.count (p.nodes.room - 3) c.args.self.now c.self.invariant.ring c.self.view_is c.args.object,
+        ap (λ (g : Lined). g.room) c.self.view_is,
+        c.self.invariant.counted,
+      );
+    }
 
--- the one before it, as its node says
-last_is : (noted : List Node) (none next : ℕ) (n : Node) → length noted ≡ none + 1 → next < none + 1 → n ≡ slice_index_or noted next n → n ≡ node_at noted next
-last_is noted none next n each low read = node_read noted next n (omega arith) read
-
-pub join-requires-clause-before : goal.join-requires-clause-before
-join-requires-clause-before c =
+pub get-last-requires : goal.get-last-requires
+get-last-requires c =
     let p = c.self.inside in
-    let n : Node = c.index.result.now in
-    let next = begins p.nodes.items p.objects p.count c.args.self.now c.args.next c.self.view_is c.requires.next in
-    let each : length c.note_size.new.nodes.items ≡ p.objects + 1 = c.note_size.ensures.nodes_stay ∙ c.self.invariant.each_node in
-    let is : n ≡ node_at c.note_size.new.nodes.items c.args.next = last_is c.note_size.new.nodes.items p.objects c.args.next n each (next-within p.nodes.items p.objects p.count c.args.next c.self.invariant next) c.index.ensures in
-    let low : before p.nodes.items c.args.next < p.objects + 1 = before-next-within p.nodes.items p.objects p.count c.args.next c.self.invariant next in
-    let same : n.before ≡ before p.nodes.items c.args.next = ap (λ (m : Node). m.before) is ∙ c.note_size.ensures.before_stay c.args.next in
-    omega arith
+    let next = begins p.nodes.list p.objects p.count (p.nodes.room - 3) c.args.self.now c.args.next c.self.view_is c.requires.next in
+    let there : IsThere p.nodes.list c.args.next = ring-there p.nodes.list p.objects p.count c.self.invariant.ring c.args.next (next-among p.nodes.list p.objects p.count c.args.next c.self.invariant.ring next) in
+    record { known = subst (λ n. c.args.next < n) (sym c.enter.ensures.entered.nodes_stay) there.0 }
 
-pub join-requires-2-clause-after : goal.join-requires-2-clause-after
-join-requires-2-clause-after c =
+pub join-requires : goal.join-requires
+join-requires c =
     let p = c.self.inside in
-    let low : c.args.next < p.objects + 1 = next-within p.nodes.items p.objects p.count c.args.next c.self.invariant (begins p.nodes.items p.objects p.count c.args.self.now c.args.next c.self.view_is c.requires.next) in
-    let each : length c.join.new.nodes.items ≡ p.objects + 1 = c.join.ensures.joined.nodes_stay ∙ c.note_size.ensures.nodes_stay ∙ c.self.invariant.each_node in
-    omega arith
+    let room : ℕ = p.nodes.room - 3 in
+    let next = begins p.nodes.list p.objects p.count room c.args.self.now c.args.next c.self.view_is c.requires.next in
+    record {
+      before = last-there p.nodes.list c.enter.new.self.list p.objects p.count c.args.object c.args.size c.args.next c.self.invariant.ring
+          (view-below p.nodes.list p.objects p.count room c.args.self.now c.self.invariant.ring c.self.view_is c.args.object c.requires.within)
+          (view-among p.nodes.list p.objects p.count room c.args.self.now c.self.invariant.ring c.self.view_is c.args.object false c.requires.absent) next c.enter.ensures.entered c.get-last.result c.get-last.ensures;
+      after = c.enter.ensures.entered.there;
+    }
+
+pub join-requires-2 : goal.join-requires-2
+join-requires-2 c =
+    let p = c.self.inside in
+    let room : ℕ = p.nodes.room - 3 in
+    let next = begins p.nodes.list p.objects p.count room c.args.self.now c.args.next c.self.view_is c.requires.next in
+    let stay : (k : ℕ) → IsThere c.enter.new.self.list k → IsThere c.join.new.self.list k =
+    joins-there c.enter.new.self.list c.join.new.self.list c.get-last.result.before c.args.object c.join.ensures.joined c.enter.ensures.entered.there.0 in
+    record {
+      before = stay c.args.object c.enter.ensures.entered.there;
+      after = stay c.args.next
+          (next-there p.nodes.list c.enter.new.self.list p.objects p.count c.args.object c.args.size c.args.next c.self.invariant.ring
+          (view-below p.nodes.list p.objects p.count room c.args.self.now c.self.invariant.ring c.self.view_is c.args.object c.requires.within)
+          (view-among p.nodes.list p.objects p.count room c.args.self.now c.self.invariant.ring c.self.view_is c.args.object false c.requires.absent) next c.enter.ensures.entered);
+    }
 
 pub overflow_add-self : goal.overflow_add-self
 overflow_add-self c =
     let p = c.self.inside in
-    omega (arith, count-few p.nodes.items p.objects p.count c.self.invariant)
+    omega (arith, count-few p.nodes.list p.objects p.count c.self.invariant.ring)
 
 pub invariant_of-self : goal.invariant_of-self
 invariant_of-self c =
     let p = c.self.inside in
-    let n : Node = c.index.result.now in
-    let next = begins p.nodes.items p.objects p.count c.args.self.now c.args.next c.self.view_is c.requires.next in
-    let each : length c.note_size.new.nodes.items ≡ p.objects + 1 = c.note_size.ensures.nodes_stay ∙ c.self.invariant.each_node in
-    let is : n ≡ node_at c.note_size.new.nodes.items c.args.next = last_is c.note_size.new.nodes.items p.objects c.args.next n each (next-within p.nodes.items p.objects p.count c.args.next c.self.invariant next) c.index.ensures in
-    put-ring p.nodes.items c.note_size.new.nodes.items c.join.new.nodes.items c.join-2.new.nodes.items p.objects p.count c.args.object c.args.size c.args.next c.self.invariant
-    (view-below p.nodes.items p.objects p.count c.args.self.now c.self.invariant c.self.view_is c.args.object c.requires.within)
-    (view-among p.nodes.items p.objects p.count c.args.self.now c.self.invariant c.self.view_is c.args.object false c.requires.absent) next
-    c.note_size.ensures (subst (λ (m : Node). Joins c.note_size.new.nodes.items c.join.new.nodes.items m.before c.args.object) is c.join.ensures.joined) c.join-2.ensures.joined
+    let room : ℕ = p.nodes.room - 3 in
+    let next = begins p.nodes.list p.objects p.count room c.args.self.now c.args.next c.self.view_is c.requires.next in
+    let space : p.count < p.nodes.room - 3 =
+    omega (arith, c.requires.space, view-length p.nodes.list p.objects p.count room c.args.self.now c.self.invariant.ring c.self.view_is c.args.object, ap (λ (g : Lined). g.room) c.self.view_is) in
+    record {
+      ring = put-ring p.nodes.list c.enter.new.self.list c.join.new.self.list c.join-2.new.self.list p.objects p.count c.args.object c.args.size c.args.next c.self.invariant.ring
+          (view-below p.nodes.list p.objects p.count room c.args.self.now c.self.invariant.ring c.self.view_is c.args.object c.requires.within)
+          (view-among p.nodes.list p.objects p.count room c.args.self.now c.self.invariant.ring c.self.view_is c.args.object false c.requires.absent) next
+          c.enter.ensures.entered
+          (subst (λ b. Joins c.enter.new.self.list c.join.new.self.list b c.args.object) (ap (λ (m : Node). m.before) c.get-last.ensures) c.join.ensures.joined) c.join-2.ensures.joined;
+      few = c.self.invariant.few;
+      counted = omega (arith, c.join-2.ensures.count, c.join.ensures.count, c.enter.ensures.count, c.self.invariant.counted);
+      fits = omega (arith, c.join-2.ensures.room, c.join.ensures.room, c.enter.ensures.room, space);
+    }
 
 pub returns : goal.returns
 returns c =
     let p = c.self.inside in
-    let n : Node = c.index.result.now in
-    let next = begins p.nodes.items p.objects p.count c.args.self.now c.args.next c.self.view_is c.requires.next in
-    let each : length c.note_size.new.nodes.items ≡ p.objects + 1 = c.note_size.ensures.nodes_stay ∙ c.self.invariant.each_node in
-    let is : n ≡ node_at c.note_size.new.nodes.items c.args.next = last_is c.note_size.new.nodes.items p.objects c.args.next n each (next-within p.nodes.items p.objects p.count c.args.next c.self.invariant next) c.index.ensures in
-    let line : ℕ → List Member → Lined = λ o ms. record { objects = o; members = ms } in
-    ap (line p.objects)
-    (put-at p.nodes.items c.note_size.new.nodes.items c.join.new.nodes.items c.join-2.new.nodes.items p.objects p.count c.args.object c.args.size c.args.next c.self.invariant
-    (view-below p.nodes.items p.objects p.count c.args.self.now c.self.invariant c.self.view_is c.args.object c.requires.within)
-    (view-among p.nodes.items p.objects p.count c.args.self.now c.self.invariant c.self.view_is c.args.object false c.requires.absent) next
-    c.note_size.ensures (subst (λ (m : Node). Joins c.note_size.new.nodes.items c.join.new.nodes.items m.before c.args.object) is c.join.ensures.joined) c.join-2.ensures.joined)
-    ∙ ap (λ (g : Lined). line g.objects (before_object c.args.next g.members ++ member c.args.object c.args.size ∷ from_object c.args.next g.members)) c.self.view_is
+    let room : ℕ = p.nodes.room - 3 in
+    let next = begins p.nodes.list p.objects p.count room c.args.self.now c.args.next c.self.view_is c.requires.next in
+    let line : List Member → ℕ → Lined = λ ms r. record { objects = p.objects; members = ms; room = r } in
+    ap (λ r. line (ring_members c.join-2.new.self.list p.objects (p.count + 1)) (r - 3)) (c.join-2.ensures.room ∙ c.join.ensures.room ∙ c.enter.ensures.room)
+    ∙ ap (λ ms. line ms room)
+    (put-at p.nodes.list c.enter.new.self.list c.join.new.self.list c.join-2.new.self.list p.objects p.count c.args.object c.args.size c.args.next c.self.invariant.ring
+    (view-below p.nodes.list p.objects p.count room c.args.self.now c.self.invariant.ring c.self.view_is c.args.object c.requires.within)
+    (view-among p.nodes.list p.objects p.count room c.args.self.now c.self.invariant.ring c.self.view_is c.args.object false c.requires.absent) next
+    c.enter.ensures.entered
+    (subst (λ b. Joins c.enter.new.self.list c.join.new.self.list b c.args.object) (ap (λ (m : Node). m.before) c.get-last.ensures) c.join.ensures.joined) c.join-2.ensures.joined)
+    ∙ ap (λ (g : Lined). record g { members = before_object c.args.next g.members ++ member c.args.object c.args.size ∷ from_object c.args.next g.members }) c.self.view_is

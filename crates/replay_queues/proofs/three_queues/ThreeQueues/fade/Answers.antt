@@ -50,6 +50,8 @@ loop-self-preserved c =
           (ap length c.set.ensures ∙ length-set t.table k 0 ∙ c.loop-self.invariant.fading.each_object ∙ sym (ap (λ (q : Parted). q.objects) c.pop_ghost-object.ensures.rest));
       fades = ap (fade c.args.most) rest ∙ fade-turn c.args.most old many ∙ c.loop-self.invariant.fades;
       table = ap length c.set.ensures ∙ length-set t.table k 0 ∙ c.loop-self.invariant.table;
+      few = omega (arith, c.pop_ghost-object.ensures.count, c.loop-self.invariant.few);
+      room = ap (λ (q : Parted). q.room) c.pop_ghost-object.ensures.rest ∙ c.loop-self.invariant.room;
     }
 
 pub returns-clause-queues : goal.returns-clause-queues

@@ -1,5 +1,6 @@
-use Rattle.std.proofs.Common.{◌≡◌, length}
+use Rattle.std.proofs.Common.{◌≡◌, ◌≤◌, length}
 use Rattle.policy_model.specs.S3Fifo.{fade}
+use Rattle.replay_queues.specs.ThreeParts.{parts_count}
 use Rattle.replay_queues.specs.SmallAndMain.{queues_at, IsFading}
 use Rattle.replay_queues.proofs.three_queues.ThreeQueues.fade.Given as goal
 
@@ -10,6 +11,8 @@ invariant-loop-self l = record {
   fading : IsFading l.self;
   fades : fade l.most l.self.parts.ghosts ≡ fade l.most l.initial.self.parts.ghosts;
   table : length l.self.table ≡ length l.initial.self.table;
+  few : parts_count l.self.parts ≤ parts_count l.initial.self.parts;
+  room : l.self.parts.room ≡ l.initial.self.parts.room;
 }
 
 abbrev pub decreases-loop-self : goal.decreases-loop-self

@@ -16,6 +16,8 @@ loop-left-init c =
       within = c.requires.within;
       queued = c.requires.queued;
       table = refl;
+      few = omega arith;
+      room = refl;
       turns = (2 * length (q.small ++ q.main), omega (arith, length-append q.small q.main), refl);
     }
 
@@ -34,6 +36,8 @@ loop-left-preserved c =
       within = omega arith;
       queued = c.shrink-left.ensures.queued;
       table = c.shrink-left.ensures.table ∙ c.loop-left.invariant.table;
+      few = omega (arith, c.shrink-left.ensures.few, c.loop-left.invariant.few);
+      room = c.shrink-left.ensures.room ∙ c.loop-left.invariant.room;
       turns = shrink_step c.args.capacity c.args.size c.loop-left.invariant.turns.0 q after (with_space c.args.capacity c.args.size (queues_at c.args.self.now)) c.shrink-left.ensures.queues (omega arith) (omega arith)
           c.loop-left.invariant.turns.1 c.loop-left.invariant.turns.2;
     }

@@ -4,7 +4,8 @@ use Rattle.std.proofs.lemmas.List.Sums.{sum_by-cons, sum_by_push}
 use Rattle.policy_model.specs.States.{Member, Entry, member, members_size}
 use Rattle.policy_model.specs.S3Fifo.{Queues, shrink_main, turns_of, queues_used}
 use Rattle.replay_queues.specs.Items.{items_of}
-use Rattle.replay_queues.specs.ThreeParts.{Parted}
+use Rattle.replay_queues.specs.ThreeParts.{Parted, parts_count}
+use Rattle.replay_queues.proofs.PartLemmas.{count-main}
 use Rattle.replay_queues.specs.SmallAndMain.{queues_by, queues_at, AreQueued, IsQueued}
 use Rattle.replay_queues.proofs.ItemLemmas.{item_bytes}
 use Rattle.replay_queues.proofs.LineLemmas.{items_of-append}
@@ -148,6 +149,8 @@ loop-object-preserved c =
         sum_by-cons (λ (x : ℕ × ℕ). x.1) p rest,
       );
       table = ap length set_is ∙ length-set t.table p.0 (get_or t.table p.0 0 - 1) ∙ c.loop-object.invariant.table;
+      few = omega (arith, ap (λ (x : Parted). parts_count x) c.push_main.ensures, count-main q (member p.0 p.1), c.in-Some.ensures.count, c.loop-object.invariant.few);
+      room = ap (λ (x : Parted). x.room) c.push_main.ensures ∙ ap (λ (x : Parted). x.room) c.pop_main.ensures.rest ∙ c.loop-object.invariant.room;
     }
 
 -- none is left

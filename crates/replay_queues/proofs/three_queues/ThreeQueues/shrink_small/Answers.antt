@@ -5,7 +5,8 @@ use Rattle.std.proofs.lemmas.List.Sums.{sum_by-cons, sum_by_push}
 use Rattle.policy_model.specs.States.{Member, member, members_size}
 use Rattle.policy_model.specs.S3Fifo.{Queues, fade, shrink_small, queues_used}
 use Rattle.replay_queues.specs.Items.{items_of}
-use Rattle.replay_queues.specs.ThreeParts.{Parted}
+use Rattle.replay_queues.specs.ThreeParts.{Parted, parts_count}
+use Rattle.replay_queues.proofs.PartLemmas.{count-main}
 use Rattle.replay_queues.specs.SmallAndMain.{queues_by, AreQueued, IsQueued}
 use Rattle.replay_queues.proofs.ItemLemmas.{item_bytes}
 use Rattle.replay_queues.proofs.LineLemmas.{items_of-append}
@@ -176,6 +177,8 @@ loop-object-preserved c =
         sum_by-cons (λ (x : ℕ × ℕ). x.1) p rest,
       );
       table = ap length c.set-in-Some.ensures ∙ length-set t.table p.0 2 ∙ c.loop-object.invariant.table;
+      few = omega (arith, ap (λ (x : Parted). parts_count x) c.push_main.ensures, count-main q (member p.0 p.1), c.in-Some.ensures.count, c.loop-object.invariant.few);
+      room = ap (λ (x : Parted). x.room) c.push_main.ensures ∙ ap (λ (x : Parted). x.room) c.pop_small.ensures.rest ∙ c.loop-object.invariant.room;
     }
 
 -- none is left

@@ -1,5 +1,6 @@
-use Rattle.std.proofs.Common.{◌≡◌, length}
+use Rattle.std.proofs.Common.{◌≡◌, ◌≤◌, length}
 use Rattle.policy_model.specs.S3Fifo.{shrink_small, queues_used}
+use Rattle.replay_queues.specs.ThreeParts.{parts_count}
 use Rattle.replay_queues.specs.SmallAndMain.{queues_at, IsQueued}
 use Rattle.replay_queues.proofs.three_queues.ThreeQueues.shrink_small.Given as goal
 
@@ -10,6 +11,8 @@ invariant-loop-object l = record {
       ≡ shrink_small l.most (queues_at l.initial.self).small (queues_at l.initial.self).main l.initial.self.parts.ghosts;
   used : queues_used (queues_at l.self) ≡ queues_used (queues_at l.initial.self);
   table : length l.self.table ≡ length l.initial.self.table;
+  few : parts_count l.self.parts ≤ parts_count l.initial.self.parts;
+  room : l.self.parts.room ≡ l.initial.self.parts.room;
 }
 
 abbrev pub decreases-loop-object : goal.decreases-loop-object

@@ -1,48 +1,76 @@
-use Rattle.std.proofs.Common.{◌≡◌, ◌<◌, ◌∙◌, sym, ap, subst, false, [], ◌∷◌, ◌++◌, arith}
+use Rattle.std.proofs.Common.{◌≡◌, ℕ, ◌+◌, ◌-◌, ◌<◌, ◌∙◌, sym, ap, subst, false, List, [], ◌∷◌, ◌++◌, length, set, eqb, arith}
+use Rattle.std.proofs.lemmas.Bool.{ne_eqb}
 use Rattle.policy_model.specs.States.{has_entry}
 use Rattle.policy_model.specs.WTinyLfu.{segment_entries}
+use Rattle.linked_nodes.specs.declared.nodes.Node.{Node}
+use Rattle.linked_nodes.specs.Nodes.{IsThere}
+use Rattle.replay_queues.proofs.RingLemmas.{before}
+use Rattle.replay_queues.proofs.GhostAnswers.{enters-there}
+use Rattle.replay_tinylfu.specs.Marks.{put_in}
 use Rattle.replay_tinylfu.specs.Queues.{Queues, plain_entry, queues_at, with_protected}
 use Rattle.replay_tinylfu.specs.Loads.{numbers_of}
-use Rattle.replay_tinylfu.proofs.LinkLemmas.{last-within}
-use Rattle.replay_tinylfu.proofs.KeptLemmas.{few-numbers, numbers-are, kept-again, notes-last, kept-protected, queues-protected}
+use Rattle.replay_tinylfu.proofs.LinkLemmas.{first-there, last-there}
+use Rattle.replay_tinylfu.proofs.KeptLemmas.{few-numbers, numbers-are, kept-protected, queues-protected}
+use Rattle.replay_tinylfu.proofs.HeldLemmas.{held-length, held-more}
 use Rattle.replay_tinylfu.proofs.ring.Ring.push_protected.Goals as goal
 
-pub put_before-requires-clause-last : goal.put_before-requires-clause-last
-put_before-requires-clause-last c =
+pub enter-requires : goal.enter-requires
+enter-requires c =
     let r = c.self.inside in
     let low : c.args.object < r.objects = subst (λ (q : Queues). c.args.object < q.objects) (sym c.self.view_is) c.requires.known in
-    let absent : has_entry (segment_entries (queues_at r.nodes.items r.objects (numbers_of r.nodes.items r.objects r.window r.probation r.protected)).segments) c.args.object ≡ false =
-    ap (λ (q : Queues). has_entry (segment_entries q.segments) c.args.object) c.self.view_is ∙ c.requires.absent in
-    notes-last r.nodes.items c.note_size.new.nodes.items r.nodes.items r.places.items r.objects r.window r.probation r.protected (numbers_of r.nodes.items r.objects r.window r.probation r.protected)
-    c.self.invariant c.args.object c.args.size low absent c.note_size.ensures r.objects
-    (last-within r.nodes.items r.objects (numbers_of r.nodes.items r.objects r.window r.probation r.protected) c.self.invariant.ring)
+    let each : length r.nodes.list ≡ r.objects + 3 = c.self.invariant.kept.ring.each_node in
+    record {
+      known = omega arith;
+      space = omega (
+        arith,
+        c.requires.space,
+        held-length r.nodes r.places.items r.objects r.window r.probation r.protected c.self.invariant c.args.self.now c.self.view_is,
+        ap (λ (q : Queues). q.room) c.self.view_is,
+        c.self.invariant.counted,
+      );
+    }
+
+pub put_before-requires : goal.put_before-requires
+put_before-requires c =
+    let r = c.self.inside in
+    let low : c.args.object < r.objects = subst (λ (q : Queues). c.args.object < q.objects) (sym c.self.view_is) c.requires.known in
+    let there : (k : ℕ) → IsThere r.nodes.list k → IsThere c.enter.new.self.list k = enters-there r.nodes.list c.enter.new.self.list c.args.object c.args.size c.enter.ensures.entered in
+    let apart : eqb r.objects c.args.object ≡ false = ne_eqb r.objects c.args.object (λ same. absurd (omega (arith, same))) in
+    let last : before c.enter.new.self.list r.objects ≡ before r.nodes.list r.objects = ap (λ (n : Node). n.before) (c.enter.ensures.entered.others_stay r.objects apart) in
+    record {
+      object = c.enter.ensures.entered.there;
+      next = there r.objects (first-there r.nodes.list r.objects (numbers_of r.nodes.list r.objects r.window r.probation r.protected) c.self.invariant.kept.ring);
+      last = subst (IsThere c.enter.new.self.list) (sym last) (there (before r.nodes.list r.objects) (last-there r.nodes.list r.objects (numbers_of r.nodes.list r.objects r.window r.probation r.protected) c.self.invariant.kept.ring));
+    }
 
 pub overflow_add-self : goal.overflow_add-self
 overflow_add-self c =
     let r = c.self.inside in
-    let few : r.objects < 2147483649 = omega (arith, c.self.invariant.ring.few) in
-    omega (arith, few-numbers r.nodes.items r.places.items r.objects r.window r.probation r.protected (numbers_of r.nodes.items r.objects r.window r.probation r.protected) c.self.invariant)
+    let few : r.objects < 2147483649 = omega (arith, c.self.invariant.kept.ring.few) in
+    omega (arith, few-numbers r.nodes.list r.places.items r.objects r.window r.probation r.protected (numbers_of r.nodes.list r.objects r.window r.probation r.protected) c.self.invariant.kept)
 
 pub invariant_of-self : goal.invariant_of-self
 invariant_of-self c =
     let r = c.self.inside in
     let low : c.args.object < r.objects = subst (λ (q : Queues). c.args.object < q.objects) (sym c.self.view_is) c.requires.known in
-    let absent : has_entry (segment_entries (queues_at r.nodes.items r.objects (numbers_of r.nodes.items r.objects r.window r.probation r.protected)).segments) c.args.object ≡ false =
+    let absent : has_entry (segment_entries (queues_at r.nodes.list r.objects (numbers_of r.nodes.list r.objects r.window r.probation r.protected)).segments) c.args.object ≡ false =
     ap (λ (q : Queues). has_entry (segment_entries q.segments) c.args.object) c.self.view_is ∙ c.requires.absent in
-    kept-again _ _ _ _ _ _ _
-    (kept-protected r.nodes.items c.note_size.new.nodes.items c.put_before.new.nodes.items r.places.items r.objects r.window r.probation r.protected (numbers_of r.nodes.items r.objects r.window r.probation r.protected)
-    c.self.invariant c.args.object c.args.size low absent c.note_size.ensures c.put_before.ensures)
+    held-more r.nodes r.places.items r.objects r.window r.probation r.protected c.self.invariant c.put_before.new.nodes (set r.places.items c.args.object 3) r.window r.probation (record { entries = r.protected.entries + 1; bytes = r.protected.bytes + c.args.size })
+    (put_in r.objects c.args.object (numbers_of r.nodes.list r.objects r.window r.probation r.protected))
+    (kept-protected r.nodes.list c.enter.new.self.list c.put_before.new.nodes.list r.places.items r.objects r.window r.probation r.protected (numbers_of r.nodes.list r.objects r.window r.probation r.protected) c.self.invariant.kept c.args.object c.args.size low absent c.enter.ensures.entered c.put_before.ensures.puts)
+    (c.put_before.ensures.room ∙ c.enter.ensures.room) c.args.self.now c.self.view_is c.requires.space (omega (arith, c.put_before.ensures.count, c.enter.ensures.count)) (omega arith)
 
 pub returns : goal.returns
 returns c =
     let r = c.self.inside in
     let low : c.args.object < r.objects = subst (λ (q : Queues). c.args.object < q.objects) (sym c.self.view_is) c.requires.known in
-    let absent : has_entry (segment_entries (queues_at r.nodes.items r.objects (numbers_of r.nodes.items r.objects r.window r.probation r.protected)).segments) c.args.object ≡ false =
+    let absent : has_entry (segment_entries (queues_at r.nodes.list r.objects (numbers_of r.nodes.list r.objects r.window r.probation r.protected)).segments) c.args.object ≡ false =
     ap (λ (q : Queues). has_entry (segment_entries q.segments) c.args.object) c.self.view_is ∙ c.requires.absent in
-    ap (queues_at c.put_before.new.nodes.items r.objects)
+    let new : List Node = c.put_before.new.nodes.list in
+    ap (λ n. record (queues_at new r.objects (numbers_of new r.objects r.window r.probation (record { entries = r.protected.entries + 1; bytes = r.protected.bytes + c.args.size }))) { room = n - 3 }) (c.put_before.ensures.room ∙ c.enter.ensures.room)
+    ∙ ap (λ (q : Queues). record q { room = r.nodes.room - 3 })
+    (ap (queues_at new r.objects)
     (numbers-are _ _ _ _ _ _ _
-    (kept-protected r.nodes.items c.note_size.new.nodes.items c.put_before.new.nodes.items r.places.items r.objects r.window r.probation r.protected (numbers_of r.nodes.items r.objects r.window r.probation r.protected)
-    c.self.invariant c.args.object c.args.size low absent c.note_size.ensures c.put_before.ensures))
-    ∙ queues-protected r.nodes.items c.note_size.new.nodes.items c.put_before.new.nodes.items r.places.items r.objects r.window r.probation r.protected (numbers_of r.nodes.items r.objects r.window r.probation r.protected)
-    c.self.invariant c.args.object c.args.size low absent c.note_size.ensures c.put_before.ensures
+    (kept-protected r.nodes.list c.enter.new.self.list c.put_before.new.nodes.list r.places.items r.objects r.window r.probation r.protected (numbers_of r.nodes.list r.objects r.window r.probation r.protected) c.self.invariant.kept c.args.object c.args.size low absent c.enter.ensures.entered c.put_before.ensures.puts))
+    ∙ queues-protected r.nodes.list c.enter.new.self.list c.put_before.new.nodes.list r.places.items r.objects r.window r.probation r.protected (numbers_of r.nodes.list r.objects r.window r.probation r.protected) c.self.invariant.kept c.args.object c.args.size low absent c.enter.ensures.entered c.put_before.ensures.puts)
     ∙ ap (λ (q : Queues). with_protected (q.segments.main.protected ++ plain_entry c.args.object c.args.size ∷ []) q) c.self.view_is

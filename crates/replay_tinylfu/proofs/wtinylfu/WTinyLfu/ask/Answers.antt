@@ -1,4 +1,4 @@
-use Rattle.std.proofs.Common.{◌≡◌, ◌≤◌, ◌∙◌, sym, refl, ap, subst, true, false, length, None, All}
+use Rattle.std.proofs.Common.{◌≡◌, ◌∙◌, sym, refl, ap, subst, true, false, length, None, All, arith}
 use Rattle.policy_model.specs.States.{has_entry, members_of, IsFit}
 use Rattle.policy_model.specs.WTinyLfu.{Segments, Frequencies, window_part, main_part, protected_part, with_request, hit_in, missed_in, segment_entries}
 use Rattle.replay_core.specs.declared.policy.Outcome.TheVariants.{Hit, Miss}
@@ -24,7 +24,7 @@ invariant_of-self c =
     subst (λ (k : Kept). All (λ m. m.object ≡ c.args.object → m.size ≡ c.args.size) (contents_of k)) (sym c.self.view_is) c.requires.kept_size in
     tinylfu-after p.objects p.capacity p.requests f q c.args.object c.args.size p.counts p.ring c.self.invariant refl refl sizes c.note.new.self.frequencies c.hit.new.ring.segments Hit
     (hit-answers p.objects p.capacity p.requests f q c.args.object c.args.size c.note.new.self.frequencies c.hit.new.ring.segments there counted moved None) c.note.new.self c.hit.new.ring
-    (ap (λ (x : Counted). x.objects) c.note.ensures.counts ∙ c.self.invariant.counted ∙ sym (ap (λ (x : Queues). x.objects) c.hit.ensures)) (subst (λ n. n ≤ p.objects) (sym (ap (λ (x : Queues). x.objects) c.hit.ensures)) c.self.invariant.within) refl refl c.note.ensures.room
+    (omega (arith, ap (λ (x : Counted). x.objects) c.note.ensures.counts, c.self.invariant.counted, ap (λ (x : Queues). x.objects) c.hit.ensures)) (omega (arith, ap (λ (x : Counted). x.objects) c.note.ensures.counts, c.self.invariant.within)) refl refl c.note.ensures.room
 
 pub returns-then-holds-clause-answers : goal.returns-then-holds-clause-answers
 returns-then-holds-clause-answers c =
@@ -71,7 +71,7 @@ invariant_of-self-2 c =
     subst (λ (k : Kept). All (λ m. m.object ≡ c.args.object → m.size ≡ c.args.size) (contents_of k)) (sym c.self.view_is) c.requires.kept_size in
     tinylfu-after p.objects p.capacity p.requests f q c.args.object c.args.size p.counts p.ring c.self.invariant refl refl sizes g c.miss.new.ring.segments Miss
     (miss-answers p.objects p.capacity p.requests f q c.args.object c.args.size none c.if-size-self.false g c.miss.new.ring.segments counted moved None) c.note-2.new.self c.miss.new.ring
-    (ap (λ (x : Counted). x.objects) c.note-2.ensures.counts ∙ c.reach.ensures.counted ∙ sym (ap (λ (x : Queues). x.objects) c.miss.ensures)) (subst (λ n. n ≤ p.objects) (sym (ap (λ (x : Queues). x.objects) c.miss.ensures)) c.reach.ensures.within) refl refl c.note-2.ensures.room
+    (omega (arith, ap (λ (x : Counted). x.objects) c.note-2.ensures.counts, c.reach.ensures.counted, ap (λ (x : Queues). x.objects) c.miss.ensures)) (omega (arith, ap (λ (x : Counted). x.objects) c.note-2.ensures.counts, c.reach.ensures.within)) refl refl c.note-2.ensures.room
 
 pub returns-clause-answers : goal.returns-clause-answers
 returns-clause-answers c =
