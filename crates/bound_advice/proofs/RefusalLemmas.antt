@@ -16,9 +16,9 @@ use Rattle.trace_lines.specs.declared.line.LineKind.TheVariants.{TooFewWords, Ba
 use Rattle.bound_terms.specs.declared.words.WordKind.{WordKind}
 use Rattle.bound_terms.specs.declared.words.WordKind.TheVariants.{Missing, Unknown, Twice, BadValue}
 use Rattle.bound_report.specs.declared.refusal.LimitName.{LimitName}
-use Rattle.bound_report.specs.declared.refusal.LimitName.TheVariants.{Requests, TraceBytes, PassRequests, PassBytes, Denominator}
+use Rattle.bound_report.specs.declared.refusal.LimitName.TheVariants.{Requests, TraceBytes, PassRequests, PassBytes, PassObjects, Denominator}
 use Rattle.bound_report.specs.declared.refusal.Refusal.{Refusal}
-use Rattle.bound_report.specs.declared.refusal.Refusal.TheVariants.{Invalid, NotFlag, FlagCount, Impossible as ImpossibleHits, Words, BadLine, Limit, Unequal, TraceFault, CertFault, MadeFault, NoMemory}
+use Rattle.bound_report.specs.declared.refusal.Refusal.TheVariants.{Invalid, NotFlag, FlagCount, Impossible as ImpossibleHits, Words, BadLine, Limit, Unequal, TraceFault, CertFault, MadeFault, PolicyMemory, NoMemory}
 use Rattle.bound_report.specs.Refusals.{word_kind_text, line_kind_text, limit_text, invalid_kind_text, impossible_text, refusal_line}
 use Rattle.bound_advice.specs.Advices.{IsAsciiLine}
 
@@ -103,6 +103,7 @@ limit-line Requests = line (codes "requests 33554432") refl
 limit-line TraceBytes = line (codes "trace bytes 68719476736") refl
 limit-line PassRequests = line (codes "requests 4294967295") refl
 limit-line PassBytes = line (codes "trace bytes 17592186044416") refl
+limit-line PassObjects = line (codes "objects 2147483648") refl
 limit-line Denominator = line (codes "denominator 281474976710656") refl
 
 invalid_kind-low : (kind : InvalidKind) → IsLow (invalid_kind_text kind)
@@ -163,4 +164,5 @@ IsAsciiLine-refusal_line (Unequal first other) = line (entry (entry (codes "uneq
 IsAsciiLine-refusal_line TraceFault = line (codes "trace fault") refl
 IsAsciiLine-refusal_line CertFault = line (codes "certificate fault") refl
 IsAsciiLine-refusal_line MadeFault = line (codes "made fault") refl
+IsAsciiLine-refusal_line (PolicyMemory policy capacity) = line (codes "no memory") refl
 IsAsciiLine-refusal_line NoMemory = line (codes "no memory") refl

@@ -1,7 +1,8 @@
 //! What a refusal means, and what to do about it.
 ghost use Rattle.std.specs.Prelude.{◌≡◌, ◌++◌, codes, is_some, string_bytes, IfOk, IsSomeAnd};
 ghost use Rattle.bound_report.specs.Refusals.{refusal_line};
-ghost use Rattle.bound_advice.specs.Advices.{IsAdviceOn, IsAsciiLine, has_advice};
+ghost use Rattle.policy_model.specs.Names.{policy_word};
+ghost use Rattle.bound_advice.specs.Advices.{IsAdviceOn, IsAsciiLine, IsPolicyAdvice, has_advice};
 
 use crate::certificates::certificate_advice;
 use crate::devices::{Seen, device_advice};
@@ -10,6 +11,7 @@ use crate::traces::BadLine;
 use crate::words::{Words, word_advice};
 use bound_report::{Impossible, InvalidKind, LimitName, Refusal, refusal_text};
 use bound_words::Command;
+use policy_model::PolicyName;
 use std::alloc::{AllocError, Global};
 use trace_any::{Format, Layout};
 use trace_lines::LineKind;
@@ -62,6 +64,9 @@ fn limit_advice(name: LimitName) -> &'static str {
         LimitName::PassBytes => {
             "a trace has at most 17592186044416 bytes in a sweep; cut it, or leave out words that are not looked at"
         }
+        LimitName::PassObjects => {
+            "policies know at most 2147483648 different objects in a sweep; without policies=.. it tells the bounds of any number"
+        }
         LimitName::Denominator => {
             "no denominator up to 281474976710656 leaves each cost whole; without denominator=exact costs are rounded up"
         }
@@ -84,6 +89,28 @@ fn impossible_advice(cause: Impossible) -> &'static str {
             "what these hits need does not fit in the capacity at this step: look for a size that is left out, an object that entered when it was not asked for, or one that is stored once its fetch completes: give that moment a line with w, and count=reads"
         }
     }
+}
+
+// What is said of a policy.
+fn of_policy(alloc: Global, policy: PolicyName, text: &str) -> Result<String, AllocError>
+    ensures { IfOk result (λ said. string_bytes said ≡ policy_word policy ++ codes " at " ++ text.now) }
+{
+    let word = policy.word();
+    format!(in alloc; "{word} at {text}")
+}
+
+// Which policy lacks memory, and at which capacity.
+fn policy_advice(
+    alloc: Global,
+    policy: PolicyName,
+    capacity: u64,
+) -> Result<Option<String>, AllocError>
+    ensures { IfOk result (λ advice. IsPolicyAdvice policy advice) }
+{
+    let text = format!(in alloc;
+        "{capacity} bytes: there was not enough memory for what it holds; name fewer policies or smaller capacities at once"
+    )?;
+    Ok(Some(of_policy(alloc, policy, text.as_str())?))
 }
 
 // A text that is said.
@@ -192,6 +219,7 @@ pub fn advice_on(
         ),
         Refusal::Impossible { cause, .. } => said(alloc, impossible_advice(cause)),
         Refusal::Invalid { line, kind } => invalid_advice(alloc, words, devices, line, kind),
+        Refusal::PolicyMemory { policy, capacity } => policy_advice(alloc, policy, capacity),
         Refusal::NoMemory => Ok(None),
     }
 }

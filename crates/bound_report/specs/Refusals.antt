@@ -8,11 +8,11 @@ use Rattle.hit_judge.specs.declared.causes.Impossible.TheVariants.{First, Size, 
 use Rattle.trace_lines.specs.declared.line.LineKind.{LineKind}
 use Rattle.trace_lines.specs.declared.line.LineKind.TheVariants.{TooFewWords, BadNumber, SizeTooLarge, BadRange, BadType, QuoteByte, TooLong, PartRecord}
 use Rattle.bound_report.specs.declared.refusal.LimitName.{LimitName}
-use Rattle.bound_report.specs.declared.refusal.LimitName.TheVariants.{Requests, TraceBytes, PassRequests, PassBytes, Denominator}
+use Rattle.bound_report.specs.declared.refusal.LimitName.TheVariants.{Requests, TraceBytes, PassRequests, PassBytes, PassObjects, Denominator}
 use Rattle.bound_terms.specs.declared.words.WordKind.{WordKind}
 use Rattle.bound_terms.specs.declared.words.WordKind.TheVariants.{Missing, Unknown, Twice, BadValue}
 use Rattle.bound_report.specs.declared.refusal.Refusal.{Refusal}
-use Rattle.bound_report.specs.declared.refusal.Refusal.TheVariants.{Invalid, NotFlag, FlagCount, Impossible as ImpossibleHits, Words, BadLine, Limit, Unequal, TraceFault, CertFault, MadeFault, NoMemory}
+use Rattle.bound_report.specs.declared.refusal.Refusal.TheVariants.{Invalid, NotFlag, FlagCount, Impossible as ImpossibleHits, Words, BadLine, Limit, Unequal, TraceFault, CertFault, MadeFault, PolicyMemory, NoMemory}
 
 -- why a word is refused, and the end of the line
 abbrev pub word_kind_text : WordKind → List ℕ
@@ -38,6 +38,7 @@ limit_text Requests = codes "requests 33554432\n"
 limit_text TraceBytes = codes "trace bytes 68719476736\n"
 limit_text PassRequests = codes "requests 4294967295\n"
 limit_text PassBytes = codes "trace bytes 17592186044416\n"
+limit_text PassObjects = codes "objects 2147483648\n"
 limit_text Denominator = codes "denominator 281474976710656\n"
 
 -- why a certificate isn't valid
@@ -82,4 +83,5 @@ refusal_line (Unequal first other) = entry (entry (codes "unequal sizes") first)
 refusal_line TraceFault = codes "trace fault\n"
 refusal_line CertFault = codes "certificate fault\n"
 refusal_line MadeFault = codes "made fault\n"
+refusal_line (PolicyMemory policy capacity) = codes "no memory\n"
 refusal_line NoMemory = codes "no memory\n"

@@ -8,6 +8,7 @@ use bound_terms::WordKind;
 use cert_checker::InvalidKind;
 use hit_judge::Impossible;
 use line_text::LineText;
+use policy_model::PolicyName;
 use trace_lines::LineKind;
 
 /// A limit of the program.
@@ -21,6 +22,8 @@ pub enum LimitName {
     PassRequests,
     /// 2^44 bytes of a trace that is read in one pass.
     PassBytes,
+    /// 2^31 different objects of a trace that policies go through in one pass.
+    PassObjects,
     /// 2^48 of a denominator.
     Denominator,
 }
@@ -51,6 +54,8 @@ pub enum Refusal {
     CertFault,
     /// A write of the certificate failed.
     MadeFault,
+    /// There was not enough memory for what the policy of this rule holds, at its capacity in bytes, in one pass over the trace.
+    PolicyMemory { policy: PolicyName, capacity: u64 },
     /// There was not enough memory.
     NoMemory,
 }
@@ -103,6 +108,7 @@ fn limit_text(name: LimitName) -> &'static [u8]
         LimitName::TraceBytes => b"trace bytes 68719476736\n",
         LimitName::PassRequests => b"requests 4294967295\n",
         LimitName::PassBytes => b"trace bytes 17592186044416\n",
+        LimitName::PassObjects => b"objects 2147483648\n",
         LimitName::Denominator => b"denominator 281474976710656\n",
     }
 }
@@ -261,7 +267,7 @@ pub fn refusal_text(refusal: &Refusal) -> RefusalText
         Refusal::TraceFault => text.push(b"trace fault\n"),
         Refusal::CertFault => text.push(b"certificate fault\n"),
         Refusal::MadeFault => text.push(b"made fault\n"),
-        Refusal::NoMemory => text.push(b"no memory\n"),
+        Refusal::PolicyMemory { .. } | Refusal::NoMemory => text.push(b"no memory\n"),
     }
     text
 }

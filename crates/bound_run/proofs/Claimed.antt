@@ -22,10 +22,10 @@ use Rattle.hit_flags.specs.declared.fault.FlagFault.{FlagFault}
 use Rattle.hit_flags.specs.declared.fault.FlagFault.TheVariants as flag
 use Rattle.hit_flags.specs.Claims.{AreRead, IsStop}
 use Rattle.hit_flags.specs.Flags.{by_turns, flags_in, stop_of}
-use Rattle.bound_report.specs.declared.refusal.LimitName.TheVariants.{Requests as MostRequests, TraceBytes, PassRequests, PassBytes, Denominator}
+use Rattle.bound_report.specs.declared.refusal.LimitName.TheVariants.{Requests as MostRequests, TraceBytes, PassRequests, PassBytes, PassObjects, Denominator}
 use Rattle.bound_words.specs.declared.plans.JudgeSettings.{JudgeSettings}
 use Rattle.bound_run.specs.declared.status.Status.{Status}
-use Rattle.bound_run.specs.declared.status.Status.TheVariants.{Done, Invalid, Words, BadLine, Limit, TraceFault, CertFault, ReportFault, MadeFault, NoMemory, Unequal, NotFlag, FlagCount, Impossible}
+use Rattle.bound_run.specs.declared.status.Status.TheVariants.{Done, Invalid, Words, BadLine, Limit, TraceFault, CertFault, ReportFault, MadeFault, NoMemory, PolicyMemory, Unequal, NotFlag, FlagCount, Impossible}
 use Rattle.bound_run.specs.Judgements.{ArePossible, IsJudged, claimed_by}
 use Rattle.bound_run.specs.Refusals.{RefusesJudge}
 use Rattle.bound_run.specs.Replays.{IsWithinBounds, earned_by}
@@ -128,6 +128,8 @@ module _ (format : Format) (asked : JudgeSettings) (source hits report : Device)
   judge_complete (Limit Denominator) e = absurd e.0
   judge_complete (Limit PassRequests) e = absurd e.0
   judge_complete (Limit PassBytes) e = absurd e.0
+  judge_complete (Limit PassObjects) e = absurd e.0
+  judge_complete (PolicyMemory policy capacity) e = absurd e.0
   judge_complete (NotFlag line) e = no_answer (NotFlag line) source.before hits.before known_trace known_hits (λ bytes text never. never) (stopped_at (flag.NotFlag line) e.0.0)
   judge_complete (FlagCount flags requests) e = no_answer (FlagCount flags requests) source.before hits.before known_trace known_hits (λ bytes text never. never) (stopped_at (flag.Count flags requests) e.0.0)
   judge_complete (Impossible cause capacity) e =

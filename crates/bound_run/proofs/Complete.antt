@@ -1,5 +1,5 @@
 -- What is answered of good inputs, if no device fails.
-use Rattle.std.proofs.Common.{◌≡◌, ◌∙◌, ℕ, ◌+◌, ◌==◌, nat_lt, refl, sym, ap, subst, inl, inr, ◌⊎◌, Bool, true, false, cond, List, [], ◌∷◌, ◌++◌, map, length, Ok, Err, Some, None, IfSome, Result}
+use Rattle.std.proofs.Common.{◌≡◌, ◌≢◌, ◌∙◌, ℕ, ◌+◌, ◌==◌, arith, nat_lt, refl, sym, ap, subst, inl, inr, ◌⊎◌, Bool, true, false, cond, List, [], ◌∷◌, ◌++◌, map, length, Ok, Err, Some, None, IfSome, Result}
 use Rattle.std.specs.Prelude.{IsSome}
 use Rattle.std.specs.declared.option.Option.{Option}
 use Rattle.std.specs.Option.{is_some}
@@ -17,7 +17,7 @@ use Rattle.trace_any.specs.declared.fault.TraceFault.TheVariants as trace
 use Rattle.trace_any.specs.Readings.{Reading as Trace, reading, full_limits}
 use Rattle.trace_any.specs.Readers.{IsWhole}
 use Rattle.bound_io.specs.Devices.{Device, HasFailed}
-use Rattle.bound_report.specs.declared.refusal.LimitName.TheVariants.{Requests, TraceBytes, PassRequests, PassBytes, Denominator}
+use Rattle.bound_report.specs.declared.refusal.LimitName.TheVariants.{Requests, TraceBytes, PassRequests, PassBytes, PassObjects, Denominator}
 use Rattle.cert_format.specs.declared.fault.CertFault.{CertFault as TextFault}
 use Rattle.cert_format.specs.declared.fault.CertFault.TheVariants as cert
 use Rattle.cert_checker.specs.declared.invalid.InvalidKind.{InvalidKind}
@@ -33,15 +33,17 @@ use Rattle.bound_words.specs.declared.plans.DrawSettings.{DrawSettings}
 use Rattle.bound_words.specs.declared.plans.Plan.{Plan}
 use Rattle.bound_words.specs.declared.words.WordFault.{WordFault}
 use Rattle.bound_run.specs.declared.status.Status.{Status}
-use Rattle.bound_run.specs.declared.status.Status.TheVariants.{Done, Invalid, Words, BadLine, Limit, TraceFault, CertFault, ReportFault, MadeFault, NoMemory, Unequal, NotFlag, FlagCount, Impossible}
+use Rattle.bound_run.specs.declared.status.Status.TheVariants.{Done, Invalid, Words, BadLine, Limit, TraceFault, CertFault, ReportFault, MadeFault, NoMemory, PolicyMemory, Unequal, NotFlag, FlagCount, Impossible}
 use Rattle.bound_run.specs.Demos.{trace_drawn}
 use Rattle.trace_any.specs.Loads.{pass_limits}
 use Rattle.bound_words.specs.declared.plans.SweepSettings.{SweepSettings}
 use Rattle.policy_model.specs.declared.names.PolicyName.{PolicyName}
+use Rattle.policy_stream.specs.Streams as streams
+use Rattle.trace_sweep.specs.Faults.{HasTooMany}
 use Rattle.bound_run.specs.Sweeps.{IsGoodPass, names_of}
 use Rattle.bound_run.specs.BoundsMade.{RefusesDenominator}
 use Rattle.bound_run.specs.Readings.{HasDenominator, IsCapacityCurved, IsGoodTrace, IsReplayed, trace_in}
-use Rattle.bound_run.specs.Run.{AnswersCurve, AnswersCurveOf, AnswersOf, Answers, AreGoodInputs, BoundsEnd, CheckEnds, CurveEnds, Completes, DemoEnds, Devices, NoneFails, RefineEnds, ReportsEnd, RunEnds, CommandEnds, UpgradeEnds, SweepEnds}
+use Rattle.bound_run.specs.Run.{AnswersCurve, AnswersCurveOf, AnswersOf, AnswersSweep, Answers, AreGoodInputs, BoundsEnd, CheckEnds, CurveEnds, Completes, DemoEnds, Devices, NoneFails, RefineEnds, ReportsEnd, RunEnds, CommandEnds, UpgradeEnds, SweepEnds}
 use Rattle.bound_run.specs.Refusals.{RefusesLoading}
 use Rattle.bound_run.specs.Upgrades.{IsGoodCertificate}
 use Rattle.bound_run.specs.Statuses.{ending_of}
@@ -131,6 +133,8 @@ module _ (format : Format) (asked : BoundSettings) (source report made : Device)
   bounds_complete (Limit Denominator) e = absurd (not_past source.before e.0.requests e.0.notes.dropped denominator e.0.loaded.read e.0.refused good)
   bounds_complete (Limit PassRequests) e = absurd e.0
   bounds_complete (Limit PassBytes) e = absurd e.0
+  bounds_complete (Limit PassObjects) e = absurd e.0
+  bounds_complete (PolicyMemory policy capacity) e = absurd e.0
   bounds_complete TraceFault e = absurd (source_works e.0)
   bounds_complete ReportFault (cert, text, ready, all, failed) = absurd (report_works failed.0)
   bounds_complete MadeFault (cert, text, ready, failed, line) = absurd (made_works failed.0)
@@ -182,6 +186,8 @@ module _ (format : Format) where
     check_complete (Limit Denominator) e = absurd e.0
     check_complete (Limit PassRequests) e = absurd e.0
     check_complete (Limit PassBytes) e = absurd e.0
+    check_complete (Limit PassObjects) e = absurd e.0
+    check_complete (PolicyMemory policy capacity) e = absurd e.0
     check_complete TraceFault e = absurd (source_works e.0)
     check_complete CertFault e = absurd (cert_works e.0)
     check_complete ReportFault (text, said, failed) = absurd (report_works failed.0)
@@ -205,6 +211,8 @@ module _ (format : Format) where
     refine_complete (Limit Denominator) e = absurd e.0
     refine_complete (Limit PassRequests) e = absurd e.0
     refine_complete (Limit PassBytes) e = absurd e.0
+    refine_complete (Limit PassObjects) e = absurd e.0
+    refine_complete (PolicyMemory policy capacity) e = absurd e.0
     refine_complete TraceFault e = absurd (source_works e.0)
     refine_complete CertFault e = absurd (cert_works e.0)
     refine_complete ReportFault (written, text, refined, all, failed) = absurd (report_works failed.0)
@@ -233,6 +241,8 @@ module _ (format : Format) (IsText : List ℕ → Type 0) (source report : Devic
   report_complete (Limit Denominator) e = absurd e.0
   report_complete (Limit PassRequests) e = absurd e.0
   report_complete (Limit PassBytes) e = absurd e.0
+  report_complete (Limit PassObjects) e = absurd e.0
+  report_complete (PolicyMemory policy capacity) e = absurd e.0
   report_complete TraceFault e = absurd (source_works e.0)
   report_complete ReportFault (text, replayed, failed) = absurd (report_works failed.0)
   report_complete MadeFault e = absurd e.0
@@ -246,18 +256,24 @@ module _ (format : Format) (IsText : List ℕ → Type 0) (source report : Devic
 
 -- sweeps
 
-module _ (format : Format) (asked : SweepSettings) (capacities : List ℕ) (policies : List PolicyName) (source report : Device) (good : IsGoodPass format source.before)
+module _ (format : Format) (asked : SweepSettings) (capacities : List ℕ) (policies : List PolicyName) (source report : Device) (good : IsGoodPass format (streams.settings_of policies capacities) source.before)
     (source_works : ¬ (HasFailed source)) (report_works : ¬ (HasFailed report)) where
-  pass_works : (before : Option (List ℕ)) (fault : FaultOfTrace) → IsGoodPass format before → IfSome before (λ bytes. (reading format pass_limits bytes).refused ≡ Some fault) → ⊥
+  pass_works : (before : Option (List ℕ)) (fault : FaultOfTrace) → IsGoodPass format (streams.settings_of policies capacities) before → IfSome before (λ bytes. (reading format pass_limits bytes).refused ≡ Some fault) → ⊥
   pass_works None fault known_trace why = known_trace
-  pass_works (Some bytes) fault known_trace why = some_is_not_none fault _ why known_trace
+  pass_works (Some bytes) fault known_trace why = some_is_not_none fault _ why known_trace.0
 
-  sweep_complete : (status : Status) → SweepEnds format asked capacities policies source report (ending_of status) → (status ≡ Done) ⊎ (status ≡ NoMemory)
-  sweep_complete Done e = inl refl
-  sweep_complete NoMemory e = inr refl
+  few_enough : (before : Option (List ℕ)) → IsGoodPass format (streams.settings_of policies capacities) before → streams.settings_of policies capacities ≢ [] → HasTooMany format before → ⊥
+  few_enough None known_trace some many = known_trace
+  few_enough (Some bytes) known_trace some many = omega (arith, known_trace.1 some, many)
+
+  sweep_complete : (status : Status) → SweepEnds format asked capacities policies source report (ending_of status) → AnswersSweep status
+  sweep_complete Done e = tt
+  sweep_complete NoMemory e = tt
+  sweep_complete (PolicyMemory policy capacity) e = tt
   sweep_complete (BadLine line kind) e = absurd (pass_works source.before (trace.BadLine line kind) good e.0.0)
   sweep_complete (Limit PassRequests) e = absurd (pass_works source.before trace.TooManyRequests good e.0.0)
   sweep_complete (Limit PassBytes) e = absurd (pass_works source.before trace.InputTooLong good e.0.0)
+  sweep_complete (Limit PassObjects) e = absurd (few_enough source.before good e.0.0 e.0.1)
   sweep_complete (Limit Requests) e = absurd e.0
   sweep_complete (Limit TraceBytes) e = absurd e.0
   sweep_complete (Limit Denominator) e = absurd e.0
@@ -300,6 +316,8 @@ module _ (format : Format) (source report : Device) (good : IsGoodTrace format s
   curve_complete (Limit Denominator) e = absurd e.0
   curve_complete (Limit PassRequests) e = absurd e.0
   curve_complete (Limit PassBytes) e = absurd e.0
+  curve_complete (Limit PassObjects) e = absurd e.0
+  curve_complete (PolicyMemory policy capacity) e = absurd e.0
   curve_complete TraceFault e = absurd (source_works e.0)
   curve_complete ReportFault (text, curved, failed) = absurd (report_works failed.0)
   curve_complete MadeFault e = absurd e.0
@@ -322,6 +340,8 @@ module _ (drawing : DrawSettings) (asked : BoundSettings) (report : Device) (den
   demo_complete (Limit Denominator) e = absurd (denominator e.0)
   demo_complete (Limit PassRequests) e = absurd e.0
   demo_complete (Limit PassBytes) e = absurd e.0
+  demo_complete (Limit PassObjects) e = absurd e.0
+  demo_complete (PolicyMemory policy capacity) e = absurd e.0
   demo_complete TraceFault e = absurd e.0
   demo_complete ReportFault (text, shows, failed) = absurd (report_works failed.0)
   demo_complete MadeFault e = absurd e.0
@@ -350,6 +370,7 @@ module _ (source report made : Device) (good : IsGoodCertificate source.before) 
   upgrade_complete MadeFault (cert, text, ready, failed, line) = absurd (made_works failed.0)
   upgrade_complete (BadLine line kind) e = absurd e.0
   upgrade_complete (Limit name) e = absurd e.0
+  upgrade_complete (PolicyMemory policy capacity) e = absurd e.0
   upgrade_complete TraceFault e = absurd e.0
   upgrade_complete (Words fault) e = absurd e.0
   upgrade_complete (Unequal first other) e = absurd e.0

@@ -16,7 +16,7 @@ use Rattle.cert_checker.proofs.Walked.{passing_is_valid_lem}
 use Rattle.demo_trace.specs.Laws.{read_whole}
 use Rattle.bound_report.specs.declared.demo.PolicyReplays.{PolicyReplays}
 use Rattle.bound_report.specs.Demos.{demo_text}
-use Rattle.bound_report.specs.declared.refusal.LimitName.TheVariants.{Requests, TraceBytes, PassRequests, PassBytes, Denominator}
+use Rattle.bound_report.specs.declared.refusal.LimitName.TheVariants.{Requests, TraceBytes, PassRequests, PassBytes, PassObjects, Denominator}
 use Rattle.bound_report.specs.declared.refusal.Refusal.{Refusal}
 use Rattle.bound_report.specs.declared.refusal.Refusal.TheVariants as refusal
 use Rattle.bound_words.specs.declared.plans.BoundSettings.{BoundSettings}
@@ -50,6 +50,8 @@ module _ (lines text : List ℕ) (lines_after text_after : Option (List ℕ)) (g
   only_memory (refusal.Limit Denominator) e = absurd e
   only_memory (refusal.Limit PassRequests) e = absurd e
   only_memory (refusal.Limit PassBytes) e = absurd e
+  only_memory (refusal.Limit PassObjects) e = absurd e
+  only_memory (refusal.PolicyMemory policy capacity) e = absurd e
   only_memory refusal.TraceFault e = absurd (no_fault e)
   only_memory refusal.CertFault e = absurd (no_fault e)
   only_memory (refusal.Unequal first other) e = absurd e

@@ -76,6 +76,7 @@ ending_of-status_of (refusal.Unequal first other) = refl
 ending_of-status_of refusal.TraceFault = refl
 ending_of-status_of refusal.CertFault = refl
 ending_of-status_of refusal.MadeFault = refl
+ending_of-status_of (refusal.PolicyMemory policy capacity) = refl
 ending_of-status_of refusal.NoMemory = refl
 
 module _ (AreReady : List ℕ → List ℕ → Type 0) (Refuses : Refusal → Type 0) (report made : Device) where

@@ -21,7 +21,7 @@ use Rattle.bound_words.specs.declared.plans.SweepSettings.{SweepSettings}
 use Rattle.bound_words.specs.declared.plans.Plan.{Plan}
 use Rattle.bound_words.specs.declared.words.WordFault.{WordFault}
 use Rattle.bound_run.specs.declared.status.Status.{Status}
-use Rattle.bound_run.specs.declared.status.Status.TheVariants.{Done, Invalid, Words, BadLine, Limit, NoMemory, Unequal, NotFlag, FlagCount, Impossible}
+use Rattle.bound_run.specs.declared.status.Status.TheVariants.{Done, Invalid, Words, BadLine, Limit, NoMemory, PolicyMemory, Unequal, NotFlag, FlagCount, Impossible}
 use Rattle.bound_run.specs.Demos.{IsDemoText, trace_drawn}
 use Rattle.bound_run.specs.Refusals.{RefusesDemo, RefusesBounds, RefusesCheck, RefusesCurve, RefusesJudge, RefusesLoading, RefusesUpgrade}
 use Rattle.bound_run.specs.BoundsMade.{RefusesDenominator}
@@ -29,6 +29,7 @@ use Rattle.bound_run.specs.Judgements.{ArePossible, IsJudged}
 use Rattle.bound_run.specs.Readings.{HasDenominator, IsCertified, IsGoodTrace, IsReady, IsReplayed, IsCurved, IsCapacityCurved, IsVerdictText}
 use Rattle.bound_run.specs.Refined.{IsRefined}
 use Rattle.policy_model.specs.declared.names.PolicyName.{PolicyName}
+use Rattle.policy_stream.specs.Streams as streams
 use Rattle.bound_run.specs.Sweeps.{IsGoodPass, IsSweepText, RefusesSweep, names_of}
 use Rattle.bound_run.specs.Upgrades.{IsGoodCertificate, IsUpgraded}
 use Rattle.bound_run.specs.Statuses.{Ending, done, refused, unreported, ending_of}
@@ -94,7 +95,7 @@ CapacityCurveEnds format asked capacities source report ending =
 
 -- how a sweep ends, and what the report got then
 abbrev pub SweepEnds : Format → SweepSettings → List ℕ → List PolicyName → Device → Device → Ending → Type 0
-SweepEnds format asked capacities policies source report ending = ReportsEnd (IsSweepText format asked capacities policies source) (RefusesSweep format source) report ending
+SweepEnds format asked capacities policies source report ending = ReportsEnd (IsSweepText format asked capacities policies source) (RefusesSweep format (streams.settings_of policies capacities) source) report ending
 
 -- how a judgement ends, and what the report got then
 abbrev pub JudgeEnds : Format → JudgeSettings → Device → Device → Device → Ending → Type 0
@@ -151,7 +152,7 @@ AreGoodInputs (Check format) d = IsGoodTrace format d.trace.before × IsSome d.b
 AreGoodInputs (Replay format r) d = IsGoodTrace format d.trace.before
 AreGoodInputs (Curve format) d = IsGoodTrace format d.trace.before
 AreGoodInputs (CapacityCurve format capacities asked) d = IsGoodTrace format d.trace.before
-AreGoodInputs (Sweep format capacities policies asked) d = IsGoodPass format d.trace.before
+AreGoodInputs (Sweep format capacities policies asked) d = IsGoodPass format (streams.settings_of (names_of policies) (capacities_in capacities)) d.trace.before
 AreGoodInputs (Judge format asked) d = IsSome d.trace.before × IsSome d.beside.before
 AreGoodInputs (Demo drawing asked) d = ¬ (RefusesDenominator asked (trace_drawn drawing))
 AreGoodInputs Upgrade d = IsGoodCertificate d.beside.before
@@ -187,6 +188,13 @@ AnswersJudge format asked (Some bytes) (Some text) (Impossible cause capacity) =
 AnswersJudge format asked before hits NoMemory = Unit {0}
 AnswersJudge format asked before hits status = ⊥
 
+-- what a sweep answers: Done, unless memory ran out for a policy or beside them
+abbrev pub AnswersSweep : Status → Type 0
+AnswersSweep Done = Unit {0}
+AnswersSweep NoMemory = Unit {0}
+AnswersSweep (PolicyMemory policy capacity) = Unit {0}
+AnswersSweep status = ⊥
+
 -- what is answered of good inputs, unless memory ran out
 abbrev pub Answers : Settings → Devices → Status → Type 0
 Answers (Bounds format asked) d status = (status ≡ Done) ⊎ (status ≡ NoMemory)
@@ -194,7 +202,7 @@ Answers (Check format) d status = AnswersOf format d.trace.before d.beside.befor
 Answers (Replay format r) d status = (status ≡ Done) ⊎ (status ≡ NoMemory)
 Answers (Curve format) d status = AnswersCurveOf format d.trace.before status
 Answers (CapacityCurve format capacities asked) d status = (status ≡ Done) ⊎ (status ≡ NoMemory)
-Answers (Sweep format capacities policies asked) d status = (status ≡ Done) ⊎ (status ≡ NoMemory)
+Answers (Sweep format capacities policies asked) d status = AnswersSweep status
 Answers (Judge format asked) d status = AnswersJudge format asked d.trace.before d.beside.before status
 Answers (Demo drawing asked) d status = (status ≡ Done) ⊎ (status ≡ NoMemory)
 Answers Upgrade d status = (status ≡ Done) ⊎ (status ≡ NoMemory)

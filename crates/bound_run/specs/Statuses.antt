@@ -4,7 +4,9 @@ use Rattle.bound_report.specs.declared.refusal.Refusal.{Refusal}
 use Rattle.bound_report.specs.declared.refusal.Refusal.TheVariants as refusal
 use Rattle.trace_any.specs.declared.fault.TraceFault.{TraceFault as FaultOfTrace}
 use Rattle.trace_any.specs.declared.fault.TraceFault.TheVariants as trace
-use Rattle.bound_report.specs.declared.refusal.LimitName.TheVariants.{Requests, TraceBytes, PassRequests, PassBytes, Denominator}
+use Rattle.bound_report.specs.declared.refusal.LimitName.TheVariants.{Requests, TraceBytes, PassRequests, PassBytes, PassObjects, Denominator}
+use Rattle.trace_sweep.specs.declared.fault.SweepFault.{SweepFault}
+use Rattle.trace_sweep.specs.declared.fault.SweepFault.TheVariants as sweep
 use Rattle.cert_checker.specs.declared.walking.CheckFault.{CheckFault}
 use Rattle.cert_checker.specs.declared.walking.CheckFault.TheVariants as check
 use Rattle.stack_curve.specs.declared.pass.CurveFault.{CurveFault}
@@ -14,7 +16,7 @@ use Rattle.hit_flags.specs.declared.fault.FlagFault.TheVariants as flag
 use Rattle.bound_run.specs.declared.bounds.BoundsFault.{BoundsFault}
 use Rattle.bound_run.specs.declared.bounds.BoundsFault.TheVariants as bounds
 use Rattle.bound_run.specs.declared.status.Status.{Status}
-use Rattle.bound_run.specs.declared.status.Status.TheVariants.{Done, Invalid, Words, BadLine, Limit, TraceFault, CertFault, ReportFault, MadeFault, NoMemory, Unequal, NotFlag, FlagCount, Impossible}
+use Rattle.bound_run.specs.declared.status.Status.TheVariants.{Done, Invalid, Words, BadLine, Limit, TraceFault, CertFault, ReportFault, MadeFault, NoMemory, PolicyMemory, Unequal, NotFlag, FlagCount, Impossible}
 
 -- the exit status of the program
 abbrev pub code_of : Status → ℕ
@@ -28,6 +30,7 @@ code_of CertFault = 6
 code_of ReportFault = 7
 code_of MadeFault = 8
 code_of NoMemory = 9
+code_of (PolicyMemory policy capacity) = 9
 code_of (Unequal first other) = 10
 code_of (NotFlag line) = 1
 code_of (FlagCount flags requests) = 1
@@ -51,6 +54,7 @@ ending_of CertFault = refused refusal.CertFault
 ending_of ReportFault = unreported
 ending_of MadeFault = refused refusal.MadeFault
 ending_of NoMemory = refused refusal.NoMemory
+ending_of (PolicyMemory policy capacity) = refused (refusal.PolicyMemory policy capacity)
 ending_of (Unequal first other) = refused (refusal.Unequal first other)
 ending_of (NotFlag line) = refused (refusal.NotFlag line)
 ending_of (FlagCount flags requests) = refused (refusal.FlagCount flags requests)
@@ -66,6 +70,7 @@ status_of refusal.TraceFault = TraceFault
 status_of refusal.CertFault = CertFault
 status_of refusal.MadeFault = MadeFault
 status_of refusal.NoMemory = NoMemory
+status_of (refusal.PolicyMemory policy capacity) = PolicyMemory policy capacity
 status_of (refusal.Unequal first other) = Unequal first other
 status_of (refusal.NotFlag line) = NotFlag line
 status_of (refusal.FlagCount flags requests) = FlagCount flags requests
@@ -80,12 +85,18 @@ refusal_of trace.TooManyRequests = refusal.Limit Requests
 refusal_of trace.NoMemory = refusal.NoMemory
 
 -- the refusal that a fault of a trace that is read in one pass leads to
-abbrev pub refusal_of_sweep : FaultOfTrace → Refusal
-refusal_of_sweep (trace.BadLine line kind) = refusal.BadLine line kind
-refusal_of_sweep trace.ReadFault = refusal.TraceFault
-refusal_of_sweep trace.InputTooLong = refusal.Limit PassBytes
-refusal_of_sweep trace.TooManyRequests = refusal.Limit PassRequests
-refusal_of_sweep trace.NoMemory = refusal.NoMemory
+abbrev pub refusal_of_pass : FaultOfTrace → Refusal
+refusal_of_pass (trace.BadLine line kind) = refusal.BadLine line kind
+refusal_of_pass trace.ReadFault = refusal.TraceFault
+refusal_of_pass trace.InputTooLong = refusal.Limit PassBytes
+refusal_of_pass trace.TooManyRequests = refusal.Limit PassRequests
+refusal_of_pass trace.NoMemory = refusal.NoMemory
+
+-- the refusal that a fault of a sweep leads to
+abbrev pub refusal_of_sweep : SweepFault → Refusal
+refusal_of_sweep (sweep.Trace fault) = refusal_of_pass fault
+refusal_of_sweep sweep.TooManyObjects = refusal.Limit PassObjects
+refusal_of_sweep (sweep.PolicyMemory policy capacity) = refusal.PolicyMemory policy capacity
 
 -- the refusal that a fault of a check leads to
 abbrev pub refusal_of_check : CheckFault → Refusal

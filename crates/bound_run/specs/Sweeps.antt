@@ -10,9 +10,11 @@ use Rattle.trace_any.specs.declared.format.Format.{Format}
 use Rattle.trace_any.specs.Loads.{IsRead, pass_limits}
 use Rattle.trace_any.specs.Readers.{Notes}
 use Rattle.trace_any.specs.Readings.{reading}
-use Rattle.trace_sweep.specs.Swept.{IsNotSwept}
+use Rattle.trace_sweep.specs.declared.fault.SweepFault.TheVariants as sweep
+use Rattle.trace_sweep.specs.Swept.{AreKnown, IsNotSwept}
 use Rattle.policy_model.specs.declared.names.PolicyName.{PolicyName}
 use Rattle.policy_sweep.specs.declared.running.PolicyReplay.{PolicyReplay}
+use Rattle.policy_sweep.specs.Running.{Setting}
 use Rattle.policy_sweep.specs.Replays.{AreReplays}
 use Rattle.policy_stream.specs.Streams.{settings_of}
 use Rattle.trace_sweep.specs.Online.{told_of}
@@ -23,7 +25,7 @@ use Rattle.bound_report.specs.declared.rendering.Counting.{Counting}
 use Rattle.bound_report.specs.declared.sweeps.SweepFacts.{SweepFacts}
 use Rattle.bound_report.specs.Sweeps.{sweep_lines}
 use Rattle.bound_report.specs.Rendering.{rendered}
-use Rattle.bound_report.specs.declared.refusal.LimitName.TheVariants.{PassRequests, PassBytes}
+use Rattle.bound_report.specs.declared.refusal.LimitName.TheVariants.{PassRequests, PassBytes, PassObjects}
 use Rattle.bound_report.specs.declared.refusal.Refusal.{Refusal}
 use Rattle.bound_report.specs.declared.refusal.Refusal.TheVariants as refusal
 use Rattle.bound_words.specs.Policies.{policies_in}
@@ -75,18 +77,21 @@ pub record IsSweepText (format : Format) (asked : SweepSettings) (capacities : L
   pub replays : List PolicyReplay
   pub are_replays : AreReplays (told_of format asked.warmup trace notes.noted) (settings_of policies capacities) replays
   pub within : AreWithin points replays
+  pub known : AreKnown (settings_of policies capacities) trace.objects
   pub text_is : text ≡ rendered (counting_from format asked.warmup trace notes.noted) (sweep_lines (sweep_facts asked capacities policies trace notes.dropped) points replays)
 
--- why a trace is not swept: a bad line, a passed limit, a failed read, or no memory
-abbrev pub RefusesSweep : Format → Device → Refusal → Type 0
-RefusesSweep format source (refusal.BadLine line kind) = IsNotSwept format source (trace.BadLine line kind)
-RefusesSweep format source (refusal.Limit PassRequests) = IsNotSwept format source trace.TooManyRequests
-RefusesSweep format source (refusal.Limit PassBytes) = IsNotSwept format source trace.InputTooLong
-RefusesSweep format source refusal.TraceFault = HasFailed source
-RefusesSweep format source refusal.NoMemory = Unit {0}
-RefusesSweep format source other = ⊥
+-- why a trace is not swept: a bad line, a passed limit, a failed read, or no memory, which is said of a policy and its capacity if it lacks it
+abbrev pub RefusesSweep : Format → List Setting → Device → Refusal → Type 0
+RefusesSweep format settings source (refusal.BadLine line kind) = IsNotSwept format settings source (sweep.Trace (trace.BadLine line kind))
+RefusesSweep format settings source (refusal.Limit PassRequests) = IsNotSwept format settings source (sweep.Trace trace.TooManyRequests)
+RefusesSweep format settings source (refusal.Limit PassBytes) = IsNotSwept format settings source (sweep.Trace trace.InputTooLong)
+RefusesSweep format settings source (refusal.Limit PassObjects) = IsNotSwept format settings source sweep.TooManyObjects
+RefusesSweep format settings source refusal.TraceFault = HasFailed source
+RefusesSweep format settings source (refusal.PolicyMemory policy capacity) = IsNotSwept format settings source (sweep.PolicyMemory policy capacity)
+RefusesSweep format settings source refusal.NoMemory = Unit {0}
+RefusesSweep format settings source other = ⊥
 
--- the bytes are known, and are a trace within the limits of one pass
-abbrev pub IsGoodPass : Format → Option (List ℕ) → Type 0
-IsGoodPass format None = ⊥
-IsGoodPass format (Some bytes) = (reading format pass_limits bytes).refused ≡ None
+-- the bytes are known, and are a trace within the limits of one pass, whose objects policies of these settings know
+abbrev pub IsGoodPass : Format → List Setting → Option (List ℕ) → Type 0
+IsGoodPass format settings None = ⊥
+IsGoodPass format settings (Some bytes) = ((reading format pass_limits bytes).refused ≡ None) × AreKnown settings (reading format pass_limits bytes).requests

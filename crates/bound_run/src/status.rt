@@ -7,6 +7,7 @@ use bound_report::{Impossible, InvalidKind, LimitName, Refusal};
 use bound_words::WordFault;
 use cert_checker::CheckFault;
 use hit_flags::FlagFault;
+use policy_model::PolicyName;
 use stack_curve::CurveFault;
 use trace_any::TraceFault;
 use trace_lines::LineKind;
@@ -34,6 +35,8 @@ pub enum Status {
     MadeFault,
     /// There was not enough memory.
     NoMemory,
+    /// There was not enough memory for what the policy of this rule holds, at its capacity in bytes, in one pass over the trace.
+    PolicyMemory { policy: PolicyName, capacity: u64 },
     /// Two objects of the trace differ in size: the size of its first object, and that of the first object which differs,
     /// in bytes.
     Unequal { first: u64, other: u64 },
@@ -60,7 +63,7 @@ impl Status {
             Status::CertFault => 6,
             Status::ReportFault => 7,
             Status::MadeFault => 8,
-            Status::NoMemory => 9,
+            Status::NoMemory | Status::PolicyMemory { .. } => 9,
             Status::Unequal { .. } => 10,
             Status::Impossible { .. } => 13,
         }
@@ -80,6 +83,9 @@ impl Status {
             Status::CertFault => Some(Refusal::CertFault),
             Status::MadeFault => Some(Refusal::MadeFault),
             Status::NoMemory => Some(Refusal::NoMemory),
+            Status::PolicyMemory { policy, capacity } => {
+                Some(Refusal::PolicyMemory { policy, capacity })
+            }
             Status::Unequal { first, other } => Some(Refusal::Unequal { first, other }),
             Status::NotFlag { line } => Some(Refusal::NotFlag { line }),
             Status::FlagCount { flags, requests } => Some(Refusal::FlagCount { flags, requests }),
@@ -108,6 +114,7 @@ impl From<Refusal> for Status {
             Refusal::CertFault => Status::CertFault,
             Refusal::MadeFault => Status::MadeFault,
             Refusal::NoMemory => Status::NoMemory,
+            Refusal::PolicyMemory { policy, capacity } => Status::PolicyMemory { policy, capacity },
         }
     }
 }

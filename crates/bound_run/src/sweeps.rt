@@ -5,8 +5,9 @@ ghost use Rattle.bound_io.specs.Reading.{LosesPrefix};
 ghost use Rattle.trace_any.specs.Readings.{IsFormat};
 ghost use Rattle.trace_sweep.specs.Swept.{IsSwept};
 ghost use Rattle.policy_model.specs.declared.names.PolicyName.TheVariants.{Belady};
+ghost use Rattle.policy_stream.specs.Streams.{settings_of};
 ghost use Rattle.bound_words.specs.Capacities.{capacities_in};
-ghost use Rattle.bound_run.specs.Statuses.{refusal_of_sweep};
+ghost use Rattle.bound_run.specs.Statuses.{refusal_of_pass, refusal_of_sweep};
 ghost use Rattle.bound_report.specs.Rendering.{rendered};
 ghost use Rattle.bound_report.specs.Sweeps.{sweep_lines};
 ghost use Rattle.trace_sweep.specs.Points.{HasEdges};
@@ -19,11 +20,11 @@ use bound_words::{CapacityList, PolicyList, SweepSettings};
 use policy_model::PolicyName;
 use std::alloc::Global;
 use trace_any::{Format, TraceFault};
-use trace_sweep::{Swept, sweep};
+use trace_sweep::{SweepFault, Swept, sweep};
 
 // The refusal that a fault of a trace that is read in one pass leads to.
-fn refusal_of_sweep(fault: TraceFault) -> Refusal
-    ensures { result ≡ refusal_of_sweep fault }
+fn refusal_of_pass(fault: TraceFault) -> Refusal
+    ensures { result ≡ refusal_of_pass fault }
 {
     match fault {
         TraceFault::BadLine { line, kind } => Refusal::BadLine { line, kind },
@@ -31,6 +32,17 @@ fn refusal_of_sweep(fault: TraceFault) -> Refusal
         TraceFault::InputTooLong => Refusal::Limit(LimitName::PassBytes),
         TraceFault::TooManyRequests => Refusal::Limit(LimitName::PassRequests),
         TraceFault::NoMemory => Refusal::NoMemory,
+    }
+}
+
+// The refusal that a fault of a sweep leads to.
+fn refusal_of_sweep(fault: SweepFault) -> Refusal
+    ensures { result ≡ refusal_of_sweep fault }
+{
+    match fault {
+        SweepFault::Trace(fault) => refusal_of_pass(fault),
+        SweepFault::TooManyObjects => Refusal::Limit(LimitName::PassObjects),
+        SweepFault::PolicyMemory { policy, capacity } => Refusal::PolicyMemory { policy, capacity },
     }
 }
 
@@ -103,7 +115,7 @@ pub(crate) fn sweep_all<T: Source>(
 ) -> Result<Vec<u8>, Refusal>
     requires format { IsFormat format }
     ensures swept { IfOk result (λ text. IsSweepText format asked (capacities_in capacities.now) (names_of policies.now) (seen T.left T.faults trace.old trace.new) text.items) }
-    ensures refused { IfErr result (RefusesSweep format (seen T.left T.faults trace.old trace.new)) }
+    ensures refused { IfErr result (RefusesSweep format (settings_of (names_of policies.now) (capacities_in capacities.now)) (seen T.left T.faults trace.old trace.new)) }
     ensures source { LosesPrefix (T.left trace.old) (T.left trace.new) }
     ensures none_failed { OnOk result (T.faults trace.new ≡ T.faults trace.old) }
 {

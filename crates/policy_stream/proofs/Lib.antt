@@ -1,3 +1,4 @@
 pub mod Longer
 pub mod Parts
 pub mod Telling
+pub mod Settings

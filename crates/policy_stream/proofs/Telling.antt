@@ -1,8 +1,8 @@
 -- What a request that is read asks of policies, of whatever trace it is the next one.
-use Rattle.std.proofs.Common.{◌≡◌, ◌≢◌, ℕ, ◌+◌, ◌<◌, ◌≤◌, ◌^◌, ◌∙◌, refl, sym, ap, subst, Bool, true, false, ◌==◌, cond, List, [], ◌∷◌, ◌++◌, length, arith, append_assoc, length-append, Some, IfSome, IsTrue, position, option_to_list, nat_le}
+use Rattle.std.proofs.Common.{◌≡◌, ◌≢◌, ℕ, ◌+◌, ◌<◌, ◌≤◌, ◌^◌, ◌∙◌, refl, sym, ap, subst, Bool, true, false, ◌==◌, cond, List, [], ◌∷◌, ◌++◌, length, arith, append_assoc, length-append, Some, None, IfSome, IsTrue, position, option_to_list, nat_le}
 use Rattle.std.specs.declared.option.Option.{Option}
-use Rattle.std.proofs.lemmas.Bool.{and_parts, eqb-true}
-use Rattle.std.proofs.lemmas.List.{get_or-append-add}
+use Rattle.std.proofs.lemmas.Bool.{and_from, and_parts, eq-eqb, eqb-true}
+use Rattle.std.proofs.lemmas.List.{get_or-append-add, nil_from_length}
 use Rattle.cache_model.specs.declared.objects.Object.{Object}
 use Rattle.cache_model.specs.Claim.{no_object, request_at, same_object}
 use Rattle.cache_model.specs.Objects.{objects_of}
@@ -21,7 +21,7 @@ use Rattle.policy_stream.specs.declared.request.Request.{Request}
 use Rattle.policy_stream.specs.declared.stream.PolicyStream.{PolicyStream}
 use Rattle.policy_stream.specs.Streams.{HasBeenTold, HasBegun, IsNumber, IsOneMore, IsPartOf, most_objects}
 use Rattle.policy_stream.proofs.Longer.{number-stays, position-passes}
-use Rattle.policy_stream.proofs.Parts.{before-part, next-length}
+use Rattle.policy_stream.proofs.Parts.{before-part, next-length, whole-part}
 
 module _ (told next all : Told) (request : Request) (more : IsOneMore told next request) (part : IsPartOf next all) (number : ℕ) (numbered : IsNumber next request.object number) where
   abbrev now : ℕ
@@ -44,7 +44,7 @@ module _ (told next all : Told) (request : Request) (more : IsOneMore told next 
   stays : position (same_object x) (objects_of all.trace) ≡ Some number
   stays = ap (λ xs. position (same_object x) (objects_of xs)) part.trace ∙ number-stays next.trace part.rest x number numbered
 
-  passes : (number < length (objects_of all.trace)) × (same_object x (object_numbered all.trace number) ≡ true)
+  pub passes : (number < length (objects_of all.trace)) × (same_object x (object_numbered all.trace number) ≡ true)
   passes = position-passes (same_object x) (objects_of all.trace) no_object number stays
 
   object : object_numbered all.trace number ≡ x
@@ -81,6 +81,17 @@ module _ (told next all : Told) (request : Request) (more : IsOneMore told next 
     size = size;
   }
 
+-- among so few objects each is known
+pub few-known : (told next : Told) (request : Request) (number : ℕ) → IsOneMore told next request → IsNumber next request.object number → length (objects_of next.trace) ≤ most_objects → number < most_objects
+few-known told next request number more numbered few = omega (arith, (passes told next next request more (whole-part next) number numbered).0, few)
+
+pub other-known : (told : Told) (other : Option ℕ) → length (objects_of told.trace) ≤ most_objects → IfSome other (λ k. k < length (objects_of told.trace)) → IfSome other (λ k. k < most_objects)
+other-known told None few known = tt
+other-known told (Some k) few known = omega (arith, known, few)
+
+pub true_is_not_false : {b : Bool} → b ≡ true → b ≡ false → ⊥
+true_is_not_false on off = cc
+
 -- no policy goes through no request
 pub idle-goes : (all : Told) (objects : ℕ) (settings : List Setting) (t : ℕ) (replays : PolicyReplays) → is_idle replays ≡ true → t + 1 < 2 ^ 32
     → HasGone all objects settings t replays → HasGone all objects settings (t + 1) replays
@@ -96,6 +107,13 @@ idle-goes all objects settings t replays idle few h =
       running = λ i s d below. absurd (omega (arith, below, none, h.each));
     }
 
+-- it has no setting
+pub idle-none : (told : Told) (settings : List Setting) (stream : PolicyStream) → is_idle stream.replays ≡ true → HasBeenTold told settings stream → settings ≡ []
+idle-none told settings stream idle h =
+    let none : length stream.replays.running.items ≡ 0 =
+    eqb-true (length stream.replays.running.items) 0 (and_parts (length stream.replays.running.items == 0) (length stream.replays.batch.items == 0) idle).0 in
+    nil_from_length settings (sym (h.gone told (whole-part told)).each ∙ none)
+
 -- so it is told
 pub idle-told : (told next : Told) (request : Request) (settings : List Setting) (stream : PolicyStream) → is_idle stream.replays ≡ true → IsOneMore told next request
     → HasBeenTold told settings stream → HasBeenTold next settings stream
@@ -104,17 +122,23 @@ idle-told told next request settings stream idle more h = record {
   gone = λ all part.
       subst (λ n. HasGone all most_objects settings n stream.replays) (sym (next-length told next request more))
       (idle-goes all most_objects settings (length told.trace) stream.replays idle (omega (arith, more.few, next-length told next request more)) (h.gone all (before-part told next all request more part)));
+  idle = λ none. idle;
   latest = λ busy. absurd (true_is_not_false idle busy);
 }
-  where
-    true_is_not_false : {b : Bool} → b ≡ true → b ≡ false → ⊥
-    true_is_not_false on off = cc
+
+-- without a setting there is no policy
+begun-idle : (told : Told) (settings : List Setting) (stream : PolicyStream) → HasBegun settings stream → settings ≡ [] → is_idle stream.replays ≡ true
+begun-idle told settings stream begun none =
+    let gone = begun.gone told in
+    and_from (length stream.replays.running.items == 0) (length stream.replays.batch.items == 0)
+    (eq-eqb (length stream.replays.running.items) 0 (gone.each ∙ ap length none)) (eq-eqb (length stream.replays.batch.items) 0 (omega (arith, gone.others)))
 
 -- before the first request
 pub begun-told : (told : Told) (settings : List Setting) (stream : PolicyStream) → told.trace ≡ [] → told.replace ≡ stream.replace → HasBegun settings stream → HasBeenTold told settings stream
 begun-told told settings stream none replace begun = record {
   replace = replace;
   gone = λ all part. subst (λ (xs : List Object). HasGone all most_objects settings (length xs) stream.replays) (sym none) (begun.gone all);
+  idle = begun-idle told settings stream begun;
   latest = λ busy replaces all part.
       subst (λ (xs : List Object). AreLatest stream.latest.entries all.trace (length xs)) (sym none)
       (subst (λ es. AreLatest es all.trace 0) (sym begun.none_kept) (latest-none all.trace));

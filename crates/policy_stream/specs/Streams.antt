@@ -1,5 +1,5 @@
 -- Policies that are told a trace request by request.
-use Rattle.std.specs.Prelude.{◌≡◌, ℕ, ◌<◌, ◌^◌, ◌++◌, ◌∷◌, [], false, nat_le, IsTrue, List, length, map, position, Some}
+use Rattle.std.specs.Prelude.{◌≡◌, ℕ, ◌<◌, ◌≤◌, ◌^◌, ◌++◌, ◌∷◌, [], true, false, nat_le, IsTrue, List, length, map, position, Some}
 use Rattle.std.specs.List.{flat_map}
 use Rattle.cache_model.specs.declared.objects.Object.{Object}
 use Rattle.cache_model.specs.Claim.{only_fills, same_object}
@@ -12,7 +12,7 @@ use Rattle.policy_sweep.specs.Replays.{HasGone, is_idle}
 use Rattle.policy_stream.specs.declared.request.Request.{Request}
 use Rattle.policy_stream.specs.declared.stream.PolicyStream.{PolicyStream}
 
--- policies know objects numbered below this
+-- policies know at most so many different objects
 abbrev pub most_objects : ℕ
 most_objects = 2 ^ 31
 
@@ -42,6 +42,7 @@ IsNumber told x number = position (same_object x) (objects_of told.trace) ≡ So
 pub record HasBeenTold (told : Told) (settings : List Setting) (stream : PolicyStream) : Type 0 where
   pub replace : told.replace ≡ stream.replace
   pub gone : (all : Told) → IsPartOf told all → HasGone all most_objects settings (length told.trace) stream.replays
+  pub idle : settings ≡ [] → is_idle stream.replays ≡ true
   pub latest : is_idle stream.replays ≡ false → IsTrue told.replace → (all : Told) → IsPartOf told all → AreLatest stream.latest.entries all.trace (length told.trace)
 
 -- policies of these rules, with this capacity
@@ -57,7 +58,7 @@ pub record HasBegun (settings : List Setting) (stream : PolicyStream) : Type 0 w
   pub none_kept : stream.latest.entries ≡ []
   pub gone : (all : Told) → HasGone all most_objects settings 0 stream.replays
 
--- they were told something, and this is the next request, whose object has this number
+-- they were told something, and this is the next request, whose object has this number and is among those that they can know
 pub record IsNextOfSome (stream : PolicyStream) (request : Request) (number : ℕ) : Type 0 where
   pub told : Told
   pub next : Told
@@ -65,3 +66,4 @@ pub record IsNextOfSome (stream : PolicyStream) (request : Request) (number : �
   pub been_told : HasBeenTold told settings stream
   pub one_more : IsOneMore told next request
   pub numbered : IsNumber next request.object number
+  pub known : is_idle stream.replays ≡ false → length (objects_of next.trace) ≤ most_objects

@@ -7,4 +7,4 @@ mod request;
 mod stream;
 
 pub use request::Request;
-pub use stream::PolicyStream;
+pub use stream::{MOST_OBJECTS, PolicyStream};

@@ -1,19 +1,23 @@
 -- Policies side by side, as one is added, as they are told a request more, and as they go through the batch.
-use Rattle.std.proofs.Common.{◌≡◌, ◌≢◌, ℕ, ◌+◌, ◌^◌, ◌<◌, ◌∙◌, ap, sym, refl, subst, inl, inr, arith, List, [], ◌∷◌, ◌++◌, length, slice_index_or, Some}
+use Rattle.std.proofs.Common.{◌≡◌, ◌≢◌, ℕ, ◌+◌, ◌^◌, ◌<◌, ◌∙◌, ap, sym, refl, subst, inl, inr, arith, List, Contains, [], ◌∷◌, ◌++◌, length, slice_index_or, Some}
 use Rattle.std.proofs.lemmas.Bool.{cases_eq}
 use Rattle.std.proofs.lemmas.List.{get_or_append_left, get_or_push, length_push}
+use Rattle.std.proofs.lemmas.List.Elements.{Contains-get_or}
 use Rattle.policy_model.specs.declared.names.PolicyName.{PolicyName}
-use Rattle.policy_model.specs.declared.names.PolicyName.TheVariants.{Belady}
+use Rattle.policy_model.specs.declared.names.PolicyName.TheVariants.{Belady, Lru}
 use Rattle.policy_model.specs.States.{start_of}
-use Rattle.replay_core.specs.Keeping.{contents_of, state_of}
+use Rattle.replay_core.specs.Keeping.{contents_of, nothing_kept, state_of}
 use Rattle.replay_fresh.proofs.KnownRuns.{run-all}
 use Rattle.replay_fresh.proofs.Writes.{written-all}
 use Rattle.replay_steps.specs.declared.asked.Asked.{Asked}
 use Rattle.any_policy.specs.Any.{kept_of, name_of}
+use Rattle.any_policy.specs.declared.policy.AnyPolicy.TheVariants as any
+use Rattle.policy_sweep.specs.declared.fault.ReplayFault.{ReplayFault}
+use Rattle.policy_sweep.specs.declared.fault.ReplayFault.TheVariants.{PolicyMemory, NoMemory}
 use Rattle.policy_sweep.specs.declared.running.Running.{Running}
 use Rattle.policy_sweep.specs.declared.replays.PolicyReplays.{PolicyReplays}
 use Rattle.policy_sweep.specs.Running.{Advances, AreAsked, IsRunning, IsToldRequest, Setting, Told}
-use Rattle.policy_sweep.specs.Replays.{HasGone, IsOfSetting}
+use Rattle.policy_sweep.specs.Replays.{HasGone, IsOfSetting, NamesOneOf, NamesSetting}
 
 -- one request more in a batch
 asked-more : (told : Told) (objects n : ℕ) (batch : List Asked) (asked : Asked) → AreAsked told objects n batch → IsToldRequest told objects (n + length batch) asked → n + length batch + 1 < 2 ^ 32 → AreAsked told objects n (batch ++ asked ∷ [])
@@ -100,3 +104,24 @@ replay-of told name capacity objects t running end is = record {
         end refl is.replayed.run;
   };
 }
+
+-- past the end
+no_setting : Setting
+no_setting = record { name = Lru; capacity = 0 }
+
+none_running : Running
+none_running = record { policy = any.Lru (nothing_kept 0 0); so_far = record { policy = Lru; capacity = 0; counts = record { hits = 0; bytes = 0; written = 0 } } }
+
+-- a setting is its rule and its capacity
+setting-is : (s : Setting) (name : PolicyName) (capacity : ℕ) → s.name ≡ name → s.capacity ≡ capacity → s ≡ record { name = name; capacity = capacity }
+setting-is s name capacity named sized = ap (λ n. record { name = n; capacity = s.capacity }) named ∙ ap (λ c. record { name = name; capacity = c }) sized
+
+-- a policy that is named is of one of the settings
+pub named-setting : (told : Told) (objects : ℕ) (settings : List Setting) (t : ℕ) (replays : PolicyReplays) (fault : ReplayFault) → HasGone told objects settings t replays
+    → NamesOneOf replays.running.items fault → NamesSetting settings fault
+named-setting told objects settings t replays (PolicyMemory policy capacity) h names =
+    let within : names.0 < length settings = omega (arith, names.1, h.each) in
+    let is = h.running names.0 no_setting none_running within in
+    let one = names.2 none_running in
+    subst (Contains settings) (setting-is (slice_index_or settings names.0 no_setting) policy capacity (sym is.named ∙ one.0) (sym is.sized ∙ one.1)) (Contains-get_or settings names.0 no_setting within)
+named-setting told objects settings t replays NoMemory h names = tt

@@ -1,11 +1,13 @@
 -- Policies side by side, as far as they were told, and what they have counted in the end.
-use Rattle.std.specs.Prelude.{◌≡◌, ◌≢◌, ℕ, ◌+◌, ◌<◌, ◌^◌, ◌==◌, ◌&&◌, Bool, List, length, slice_index_or, Some}
+use Rattle.std.specs.Prelude.{◌≡◌, ◌≢◌, ℕ, ◌+◌, ◌<◌, ◌^◌, ◌==◌, ◌&&◌, Bool, List, Contains, length, slice_index_or, Some}
 use Rattle.policy_model.specs.declared.names.PolicyName.{PolicyName}
 use Rattle.policy_model.specs.declared.names.PolicyName.TheVariants.{Belady}
 use Rattle.policy_model.specs.States.{start_of}
 use Rattle.replay_core.specs.declared.counts.Replay.{Replay}
 use Rattle.replay_fresh.specs.FreshRuns.{IsFreshRunOf, IsFreshlyPlayed}
 use Rattle.replay_steps.specs.declared.asked.Asked.{Asked}
+use Rattle.policy_sweep.specs.declared.fault.ReplayFault.{ReplayFault}
+use Rattle.policy_sweep.specs.declared.fault.ReplayFault.TheVariants.{PolicyMemory, NoMemory}
 use Rattle.policy_sweep.specs.declared.running.PolicyReplay.{PolicyReplay}
 use Rattle.policy_sweep.specs.declared.running.Running.{Running}
 use Rattle.policy_sweep.specs.declared.replays.PolicyReplays.{PolicyReplays}
@@ -58,3 +60,14 @@ pub record IsOfSetting (told : Told) (setting : Setting) (replay : PolicyReplay)
 pub record AreReplays (told : Told) (settings : List Setting) (replays : List PolicyReplay) : Type 0 where
   pub each : length replays ≡ length settings
   pub are : (i : ℕ) (s : Setting) (d : PolicyReplay) → i < length settings → IsOfSetting told (slice_index_or settings i s) (slice_index_or replays i d)
+
+-- the policy that a fault names is one of these, at its capacity
+abbrev pub NamesOneOf : List Running → ReplayFault → Type 0
+NamesOneOf running (PolicyMemory policy capacity) =
+    (i : ℕ) × (i < length running) × ((d : Running) → ((slice_index_or running i d).so_far.policy ≡ policy) × ((slice_index_or running i d).so_far.capacity ≡ capacity))
+NamesOneOf running NoMemory = Unit {0}
+
+-- the policy that a fault names is of one of these settings
+abbrev pub NamesSetting : List Setting → ReplayFault → Type 0
+NamesSetting settings (PolicyMemory policy capacity) = Contains settings (record { name = policy; capacity = capacity })
+NamesSetting settings NoMemory = Unit {0}

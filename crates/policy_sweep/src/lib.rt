@@ -4,8 +4,10 @@
 //! processor meanwhile.
 #![tactic(auto)]
 
+mod fault;
 mod replays;
 mod running;
 
+pub use fault::ReplayFault;
 pub use replays::PolicyReplays;
 pub use running::PolicyReplay;

@@ -1,10 +1,11 @@
 //! The policies at all capacities, and the requests that they have not gone through yet.
-ghost use Rattle.std.specs.Prelude.{◌≡◌, ◌≢◌, ◌+◌, ◌<◌, ◌≤◌, ◌^◌, ◌++◌, ◌∷◌, [], ℕ, List, length, map, slice_index_or, IfOk, OnOk};
+ghost use Rattle.std.specs.Prelude.{◌≡◌, ◌≢◌, ◌+◌, ◌<◌, ◌≤◌, ◌^◌, ◌++◌, ◌∷◌, [], ℕ, List, length, map, slice_index_or, IfOk, IfErr, OnOk};
 ghost use Rattle.policy_model.specs.declared.names.PolicyName.TheVariants.{Belady};
 ghost use Rattle.policy_sweep.specs.declared.running.Running.{Running};
 ghost use Rattle.policy_sweep.specs.Running.{Advances, IsAnyRunning, IsToldRequest, Setting, Told};
-ghost use Rattle.policy_sweep.specs.Replays.{AreReplays, HasGone, HasGoneSome, IsNextOfSome, is_idle};
+ghost use Rattle.policy_sweep.specs.Replays.{AreReplays, HasGone, HasGoneSome, IsNextOfSome, NamesOneOf, NamesSetting, is_idle};
 
+use crate::fault::ReplayFault;
 use crate::running::{PolicyReplay, Running};
 use bound_base::NoMemory;
 use policy_model::PolicyName;
@@ -27,14 +28,22 @@ fn go_through_all(
     alloc: Global,
     running: &mut Vec<Running>,
     batch: &[Asked],
-) -> Result<(), NoMemory>
+) -> Result<(), ReplayFault>
     requires of_some { (i : ℕ) (d : Running) → i < length running.old.items → IsAnyRunning (slice_index_or running.old.items i d) batch.now }
     ensures each { length running.new.items ≡ length running.old.items }
     ensures more { OnOk result ((i : ℕ) (d : Running) → i < length running.old.items → Advances batch.now (slice_index_or running.old.items i d) (slice_index_or running.new.items i d)) }
+    ensures named { IfErr result (NamesOneOf running.old.items) }
 {
     for place in 0..running.len() {
+        let PolicyReplay {
+            policy,
+            capacity,
+            ..
+        } = running[place].so_far;
         let one = &mut running[place];
-        one.go_through(alloc, batch)?;
+        if let Err(NoMemory) = one.go_through(alloc, batch) {
+            return Err(ReplayFault::PolicyMemory { policy, capacity });
+        }
     }
     Ok(())
 }
@@ -88,36 +97,51 @@ impl PolicyReplays {
     }
 
     // All policies go through the batch.
-    fn flush(&mut self, alloc: Global) -> Result<(), NoMemory>
+    fn flush(&mut self, alloc: Global) -> Result<(), ReplayFault>
         requires of_some { HasGoneSome self.old }
         ensures gone { OnOk result ((told : Told) (objects : ℕ) (settings : List Setting) (t : ℕ) → HasGone told objects settings t self.old → HasGone told objects settings t self.new) }
         ensures none { OnOk result (self.new.batch.items ≡ []) }
+        ensures named { IfErr result (λ fault. (told : Told) (objects : ℕ) (settings : List Setting) (t : ℕ) → HasGone told objects settings t self.old → NamesSetting settings fault) }
     {
         go_through_all(alloc, &mut self.running, &self.batch)?;
         self.batch.clear();
         Ok(())
     }
 
-    /// Tells the policies one request more. They go through it with those of its batch.
-    pub fn request(&mut self, alloc: Global, asked: Asked) -> Result<(), NoMemory>
+    // One request more in the batch.
+    fn keep(&mut self, asked: Asked) -> Result<(), NoMemory>
+        ensures running { self.new.running ≡ self.old.running }
+        ensures batch { OnOk result (self.new.batch.items ≡ self.old.batch.items ++ asked ∷ []) }
+    {
+        self.batch.push(asked)?;
+        Ok(())
+    }
+
+    /// Tells the policies one request more. They go through it with those of its batch. A fault names the policy and its
+    /// capacity, if it is one that lacks memory.
+    pub fn request(&mut self, alloc: Global, asked: Asked) -> Result<(), ReplayFault>
         requires of_some { IsNextOfSome self.old asked }
         ensures gone { OnOk result ((told : Told) (objects : ℕ) (settings : List Setting) (t : ℕ) → IsToldRequest told objects t asked → t + 1 < 2 ^ 32
             → HasGone told objects settings t self.old → HasGone told objects settings (t + 1) self.new) }
+        ensures named { IfErr result (λ fault. (told : Told) (objects : ℕ) (settings : List Setting) (t : ℕ) → IsToldRequest told objects t asked → t + 1 < 2 ^ 32
+            → HasGone told objects settings t self.old → NamesSetting settings fault) }
     {
-        self.batch.push(asked)?;
+        self.keep(asked)?;
         if self.batch.len() >= BATCH {
             self.flush(alloc)?;
         }
         Ok(())
     }
 
-    /// What each of the policies has counted, once it has gone through all requests.
-    pub fn finish(&mut self, alloc: Global) -> Result<Vec<PolicyReplay>, NoMemory>
+    /// What each of the policies has counted, once it has gone through all requests. A fault names the policy and its capacity,
+    /// if it is one that lacks memory.
+    pub fn finish(&mut self, alloc: Global) -> Result<Vec<PolicyReplay>, ReplayFault>
         requires of_some { HasGoneSome self.old }
         ensures replays { IfOk result (λ replays. (told : Told) (objects : ℕ) (settings : List Setting) → HasGone told objects settings (length told.trace) self.old
             → AreReplays told settings replays.items) }
+        ensures named { IfErr result (λ fault. (told : Told) (objects : ℕ) (settings : List Setting) (t : ℕ) → HasGone told objects settings t self.old → NamesSetting settings fault) }
     {
         self.flush(alloc)?;
-        replays_of(alloc, &self.running)
+        Ok(replays_of(alloc, &self.running)?)
     }
 }

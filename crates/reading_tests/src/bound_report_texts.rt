@@ -199,7 +199,7 @@ fn names_what_makes_a_certificate_invalid(rt: HostRuntime) {
     }
 }
 
-const OTHERS: [(Refusal, &[u8]); 9] = [
+const OTHERS: [(Refusal, &[u8]); 11] = [
     (
         Refusal::Words {
             place: u64::MAX,
@@ -235,7 +235,18 @@ const OTHERS: [(Refusal, &[u8]); 9] = [
     (Refusal::TraceFault, b"trace fault\n"),
     (Refusal::CertFault, b"certificate fault\n"),
     (Refusal::MadeFault, b"made fault\n"),
+    (
+        Refusal::Limit(LimitName::PassObjects),
+        b"limit: objects 2147483648\n",
+    ),
     (Refusal::NoMemory, b"no memory\n"),
+    (
+        Refusal::PolicyMemory {
+            policy: PolicyName::Lru,
+            capacity: 8,
+        },
+        b"no memory\n",
+    ),
 ];
 
 #[test]

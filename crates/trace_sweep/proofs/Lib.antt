@@ -2,3 +2,4 @@ mod Tallies
 mod Pointed
 mod Within
 mod Whole
+mod Stopped

@@ -6,15 +6,12 @@ use Rattle.bound_io.specs.Devices.{Device, device}
 use Rattle.cache_model.specs.Objects.{objects_of}
 use Rattle.area_sums.specs.declared.bound.CapacityBounds.{CapacityBounds}
 use Rattle.freshness.specs.Stale.{can_end}
-use Rattle.trace_any.specs.declared.fault.TraceFault.{TraceFault}
-use Rattle.trace_any.specs.declared.fault.TraceFault.TheVariants.{BadLine, ReadFault, InputTooLong, TooManyRequests, NoMemory}
 use Rattle.trace_any.specs.declared.format.Format.{Format}
 use Rattle.trace_any.specs.Counts.{counted_in, stale_in}
-use Rattle.trace_any.specs.FirstLines.{HasLostThrough}
 use Rattle.trace_any.specs.Loads.{IsRead, pass_limits}
-use Rattle.trace_any.specs.Readers.{HasSeenAll, LeavesNone, LoadsAll, Reader, RefusesTrace, fresh}
-use Rattle.trace_any.specs.Readings.{Reading, has_marks}
-use Rattle.trace_any.proofs.Loads.{from_start_within, nothing_left, read_all}
+use Rattle.trace_any.specs.Readers.{HasSeenAll, LeavesNone, LoadsAll, Reader, fresh}
+use Rattle.trace_any.specs.Readings.{has_marks}
+use Rattle.trace_any.proofs.Loads.{nothing_left, read_all}
 use Rattle.sweep_bounds.specs.Sweep.{AreBoundsOf, Sweep}
 use Rattle.policy_model.specs.declared.names.PolicyName.{PolicyName}
 use Rattle.policy_sweep.specs.Replays.{AreReplays}
@@ -24,18 +21,9 @@ use Rattle.trace_sweep.specs.Online.{told_of}
 use Rattle.trace_sweep.specs.declared.sweeping.Swept.{Swept}
 use Rattle.trace_sweep.specs.declared.tally.Tally.{Tally}
 use Rattle.trace_sweep.specs.Points.{AreSweepPoints, points_of}
-use Rattle.trace_sweep.specs.Swept.{HasSweptAll, IsNotSwept, IsSwept}
+use Rattle.trace_sweep.specs.Swept.{AreKnown, HasSweptAll, IsSwept}
 use Rattle.trace_sweep.proofs.Pointed.{points-are}
 use Rattle.trace_sweep.proofs.Within.{all-within}
-
--- what a stream that has read nothing refuses is what the source had left
-module _ (format : Format) (source : Device) where
-  pub not_swept : (fault : TraceFault) → RefusesTrace (fresh format pass_limits) source fault → HasLostThrough format pass_limits source fault → IsNotSwept format source fault
-  not_swept (BadLine line kind) why lost = (from_start_within pass_limits format (fresh format pass_limits) source.before (λ (r : Reading). r.refused ≡ Some (BadLine line kind)) refl why, lost)
-  not_swept InputTooLong why lost = (from_start_within pass_limits format (fresh format pass_limits) source.before (λ (r : Reading). r.refused ≡ Some InputTooLong) refl why, lost)
-  not_swept TooManyRequests why lost = (from_start_within pass_limits format (fresh format pass_limits) source.before (λ (r : Reading). r.refused ≡ Some TooManyRequests) refl why, lost)
-  not_swept ReadFault why lost = why
-  not_swept NoMemory why lost = tt
 
 -- a number that is told only if something is so
 told_if : (b : Bool) (n m : ℕ) → (b ≡ true → n ≡ m) → then_some b n ≡ cond b (Some m) None
@@ -57,8 +45,9 @@ module _ (format : Format) (warmup delay : ℕ) (source : Device) (new : Reader)
       → found.requests ≡ sweep.requests → found.objects ≡ length (objects_of swept.trace.objects) → found.dropped ≡ new.dropped
       → found.counted ≡ then_some (has_marks format.layout) tally.counted → found.late ≡ new.seen.noted.late → found.stale ≡ then_some (can_end format.fresh) tally.stale
       → found.points.items ≡ points_of capacities bounds → AreReplays (told_of format warmup swept.trace new.seen.noted) (settings_of names capacities) found.replays.items
+      → AreKnown (settings_of names capacities) swept.trace.objects
       → IsSwept format capacities names warmup delay source found
-  swept_whole before after faults_before faults_after is capacities names bounds found same_warmup same_delay same_capacities are requests objects dropped counted late stale points replays = record {
+  swept_whole before after faults_before faults_after is capacities names bounds found same_warmup same_delay same_capacities are requests objects dropped counted late stale points replays known = record {
     trace = swept.trace;
     notes = record { dropped = new.dropped; noted = new.seen.noted };
     read = subst (λ d. IsRead pass_limits format d swept.trace (record { dropped = new.dropped; noted = new.seen.noted })) (sym is)
@@ -74,6 +63,7 @@ module _ (format : Format) (warmup delay : ℕ) (source : Device) (new : Reader)
     stale = stale ∙ stale_is;
     points = points_are;
     replays = replays;
+    known = known;
     within = all-within format warmup delay swept.trace new.seen.noted capacities (settings_of names capacities) found.points.items found.replays.items points_are replays;
   }
     where

@@ -5,14 +5,14 @@ ghost use Rattle.bound_io.specs.Devices.{seen};
 ghost use Rattle.bound_io.specs.Reading.{ReadsSource};
 ghost use Rattle.policy_model.specs.declared.names.PolicyName.TheVariants.{Belady};
 ghost use Rattle.policy_sweep.specs.Running.{Setting};
-ghost use Rattle.policy_stream.specs.Streams.{HasBegun};
+ghost use Rattle.policy_stream.specs.Streams.{HasBegun, settings_of};
 ghost use Rattle.sweep_bounds.specs.Sweep.{HasSeen};
-ghost use Rattle.trace_any.specs.FirstLines.{HasLostThrough};
-ghost use Rattle.trace_any.specs.Loads.{IsRefusedWithin, pass_limits};
 ghost use Rattle.trace_any.specs.Readings.{IsFormat};
-ghost use Rattle.trace_any.specs.Readers.{RefusesTrace, fresh};
+ghost use Rattle.trace_any.specs.Readers.{fresh};
+ghost use Rattle.trace_sweep.specs.Faults.{Stops};
 ghost use Rattle.trace_sweep.specs.Swept.{HasSweptAll, IsNotSwept, IsSwept};
 
+use crate::fault::SweepFault;
 use crate::points::{SweepPoint, points_of};
 use crate::tally::{Tally, is_counted};
 use crate::telling::tell;
@@ -47,22 +47,21 @@ fn sweep_all<S: Source>(
     bounds: &mut SweepBounds,
     policies: &mut PolicyStream,
     source: &mut S,
-) -> Result<Tally, TraceFault>
+) -> Result<Tally, SweepFault>
     requires begins { stream.old ≡ fresh stream.old.format stream.old.limits }
     requires nothing { (fills : List Bool) → HasSeen [] fills bounds.old }
     requires begun { (settings : List Setting) × HasBegun settings policies.old }
     requires replace { policies.old.replace ≡ stream.old.format.fresh.replace }
     ensures kept { (bounds.new.warmup ≡ bounds.old.warmup) × (bounds.new.delay ≡ bounds.old.delay) × (bounds.new.sums.capacities ≡ bounds.old.sums.capacities) }
     ensures swept { IfOk result (HasSweptAll bounds.old.warmup stream.old stream.new (seen S.left S.faults source.old source.new) bounds.new policies.old policies.new) }
-    ensures refused { IfErr result (RefusesTrace stream.old (seen S.left S.faults source.old source.new)) }
-    ensures lost { IfErr result (HasLostThrough stream.old.format stream.old.limits (seen S.left S.faults source.old source.new)) }
-    ensures reads { ReadsSource TraceFault.ReadFault (seen S.left S.faults source.old source.new) result }
+    ensures stops { IfErr result (λ fault. (settings : List Setting) → HasBegun settings policies.old → Stops stream.old (seen S.left S.faults source.old source.new) settings fault) }
+    ensures reads { ReadsSource (SweepFault.Trace TraceFault.ReadFault) (seen S.left S.faults source.old source.new) result }
 {
     let warmup = bounds.warmup();
     let mut tally = Tally::NONE;
     while let Some(object) = stream.next(alloc, source)? {
         if stream.passes_limit() {
-            return Err(TraceFault::TooManyRequests);
+            return Err(SweepFault::Trace(TraceFault::TooManyRequests));
         }
         let counts = is_counted(warmup, bounds.requests(), stream.last_own());
         tally = tally.with(counts, stream.last_stale());
@@ -87,7 +86,7 @@ fn sweep_with<S: Source>(
     bounds: &mut SweepBounds,
     policies: &mut PolicyStream,
     source: &mut S,
-) -> Result<Swept, TraceFault>
+) -> Result<Swept, SweepFault>
     requires format { IsFormat format }
     requires capacities { AreCapacities capacities.now }
     requires positive { All (λ c. 1 ≤ c) capacities.now }
@@ -97,8 +96,8 @@ fn sweep_with<S: Source>(
     requires begun { HasBegun [] policies.old }
     requires replace { policies.old.replace ≡ format.fresh.replace }
     ensures swept { IfOk result (IsSwept format capacities.now names.now bounds.old.warmup bounds.old.delay (seen S.left S.faults source.old source.new)) }
-    ensures refused { IfErr result (IsNotSwept format (seen S.left S.faults source.old source.new)) }
-    ensures reads { ReadsSource TraceFault.ReadFault (seen S.left S.faults source.old source.new) result }
+    ensures refused { IfErr result (IsNotSwept format (settings_of names.now capacities.now) (seen S.left S.faults source.old source.new)) }
+    ensures reads { ReadsSource (SweepFault.Trace TraceFault.ReadFault) (seen S.left S.faults source.old source.new) result }
 {
     policies.add_all(alloc, names, capacities)?;
     let mut stream = RequestStream::new(alloc, format, Limits::of_one_pass())?;
@@ -124,7 +123,8 @@ fn sweep_with<S: Source>(
 ///
 /// It takes an entry of a hash map for each object, and two if requests can be stale, and what each policy takes at each
 /// capacity, and none for a request. A line that asks for more requests than there is room for is refused before any but its
-/// first is told.
+/// first is told, and if there are policies so is the first request for more different objects than they know. A fault names
+/// the policy that lacks memory, and its capacity.
 pub fn sweep<S: Source>(
     alloc: Global,
     format: Format,
@@ -133,14 +133,14 @@ pub fn sweep<S: Source>(
     warmup: u32,
     delay: u32,
     source: &mut S,
-) -> Result<Swept, TraceFault>
+) -> Result<Swept, SweepFault>
     requires format { IsFormat format }
     requires capacities { AreCapacities capacities.now }
     requires positive { All (λ c. 1 ≤ c) capacities.now }
     requires ahead_of { All (λ n. n ≢ Belady) names.now }
     ensures swept { IfOk result (IsSwept format capacities.now names.now warmup delay (seen S.left S.faults source.old source.new)) }
-    ensures refused { IfErr result (IsNotSwept format (seen S.left S.faults source.old source.new)) }
-    ensures reads { ReadsSource TraceFault.ReadFault (seen S.left S.faults source.old source.new) result }
+    ensures refused { IfErr result (IsNotSwept format (settings_of names.now capacities.now) (seen S.left S.faults source.old source.new)) }
+    ensures reads { ReadsSource (SweepFault.Trace TraceFault.ReadFault) (seen S.left S.faults source.old source.new) result }
 {
     let mut bounds = SweepBounds::new(alloc, capacities, warmup, delay)?;
     let mut policies = PolicyStream::new(alloc, format.fresh.replace);

@@ -33,7 +33,7 @@ loop-place-preserved c =
         | inl same ↦
             subst (λ k. Advances c.args.batch.now (slice_index_or init k d) (slice_index_or (slice_set cur place new) k d)) (sym same)
             (subst (λ r. Advances c.args.batch.now r (slice_index_or (slice_set cur place new) place d)) (is ∙ get_or_default init place one d below)
-            (subst (λ r. Advances c.args.batch.now one r) (sym (get_or-set_same cur place new d within)) c.in_ok-go_through.ensures.more))
+            (subst (λ r. Advances c.args.batch.now one r) (sym (get_or-set_same cur place new d within)) c.in_default.ensures.more))
         | inr apart ↦
             subst (λ r. Advances c.args.batch.now (slice_index_or init i d) r) (sym (get_or-set_other cur place i new d apart)) (c.loop-place.invariant.gone i d (omega (arith, low, apart)))
       ];

@@ -8,7 +8,7 @@ use Rattle.trace_any.proofs.Coming.{after_all}
 use Rattle.policy_sweep.specs.Running.{Setting}
 use Rattle.policy_stream.specs.Streams.{HasBeenTold, HasBegun}
 use Rattle.trace_sweep.specs.Online.{told_of}
-use Rattle.trace_sweep.specs.Swept.{IsTally}
+use Rattle.trace_sweep.specs.Swept.{AreKnown, IsTally}
 use Rattle.trace_sweep.proofs.Tallies.{IsAligned}
 use Rattle.trace_sweep.proofs.sweeping.sweep_all.Given as goal
 
@@ -33,6 +33,7 @@ invariant-loop-object g l = record {
   counted : l.tally.counted ≤ length trace.objects;
   stale : l.tally.stale ≤ length trace.objects;
   told : (settings : List Setting) → HasBegun settings l.initial.policies → HasBeenTold (told_of l.initial.stream.format l.initial.bounds.warmup trace l.stream.seen.noted) settings l.policies;
+  known : (settings : List Setting) → HasBegun settings l.initial.policies → AreKnown settings trace.objects;
 }
 
 abbrev pub decreases-loop-object : goal.decreases-loop-object

@@ -1,26 +1,33 @@
 use Rattle.std.proofs.Common.{◌≡◌, ◌∙◌, refl, ap, subst}
 use Rattle.std.proofs.lemmas.Result.{err_from_is_err_and}
 use Rattle.bound_io.specs.Devices.{seen}
-use Rattle.trace_any.specs.FirstLines.{HasLostThrough}
 use Rattle.trace_any.specs.Loads.{pass_limits}
-use Rattle.trace_any.specs.Readers.{Reader, RefusesTrace, fresh}
+use Rattle.trace_any.specs.Readers.{Reader, fresh}
 use Rattle.std.specs.Bool.{then_some}
 use Rattle.policy_stream.specs.Streams.{HasBegun, settings_of}
 use Rattle.trace_sweep.specs.Online.{told_of}
 use Rattle.trace_sweep.specs.Points.{points_of}
 use Rattle.trace_sweep.specs.Swept.{HasSweptAll}
-use Rattle.trace_sweep.proofs.Whole.{not_swept, swept_whole}
+use Rattle.trace_sweep.specs.Faults.{Stops}
+use Rattle.trace_sweep.proofs.Stopped.{not_replayed, not_swept}
+use Rattle.trace_sweep.proofs.Whole.{swept_whole}
 use Rattle.trace_sweep.proofs.sweeping.sweep_with.Goals as goal
+
+pub returns-in_err-add_all-clause-refused : goal.returns-in_err-add_all-clause-refused
+returns-in_err-add_all-clause-refused g c =
+    let p = err_from_is_err_and c.from_residual.result c.from_residual.ensures.1 in
+    rw (p.1, p.2) (not_replayed c.args.format (settings_of c.args.names.now c.args.capacities.now) (seen g.S.Source.left g.S.Source.faults c.args.source.now c.args.source.now) c.in_err-add_all.field-0.0 c.in_err-add_all.ensures.named)
 
 pub returns-in_err-tally-clause-refused : goal.returns-in_err-tally-clause-refused
 returns-in_err-tally-clause-refused g c =
     let source = seen g.S.Source.left g.S.Source.faults c.args.source.now c.sweep_all.new.source in
     let new : c.in_ok-stream.stream ≡ fresh c.args.format pass_limits = c.in_ok-stream.ensures ∙ ap (fresh c.args.format) c.of_one_pass.ensures in
     let fault = c.in_err-tally.field-0.0 in
-    let why = subst (λ (r : Reader). RefusesTrace r source fault) new c.in_err-tally.ensures.refused in
-    let lost = subst (λ (r : Reader). HasLostThrough r.format r.limits source fault) new c.in_err-tally.ensures.lost in
+    let settings = settings_of c.args.names.now c.args.capacities.now in
+    let begun : HasBegun settings c.add_all.new.self = c.in_ok-add_all.ensures.added c.requires.begun in
+    let why = subst (λ (r : Reader). Stops r source settings fault) new (c.in_err-tally.ensures.stops settings begun) in
     let p = err_from_is_err_and c.from_residual-in_err-tally.result c.from_residual-in_err-tally.ensures.1 in
-    rw (p.1, p.2) (not_swept c.args.format source fault why lost)
+    rw (p.1, p.2) (not_swept c.args.format settings source fault why)
 
 pub returns-clause-swept : goal.returns-clause-swept
 returns-clause-swept g c =
@@ -40,6 +47,7 @@ returns-clause-swept g c =
     (c.then_some.ensures ∙ ap (λ b. then_some b tally.counted) c.has_marks-marked.ensures) c.late.ensures (c.then_some-2.ensures ∙ ap (λ b. then_some b tally.stale) c.can_end-can_end.ensures)
     (c.in_ok-points_of.ensures ∙ ap (points_of c.args.capacities.now) c.deref.ensures.value)
     (c.in_ok-finish.ensures.replays (told_of c.args.format c.args.bounds.now.warmup swept.trace last.seen.noted) settings (swept.told settings begun))
+    (swept.known settings begun)
 
 pub returns-in_err-least-clause-refused : goal.returns-in_err-least-clause-refused
 returns-in_err-least-clause-refused g c =
@@ -53,8 +61,12 @@ returns-in_err-points_of-clause-refused g c =
 
 pub returns-in_err-finish-clause-refused : goal.returns-in_err-finish-clause-refused
 returns-in_err-finish-clause-refused g c =
+    let settings = settings_of c.args.names.now c.args.capacities.now in
+    let begun : HasBegun settings c.add_all.new.self = c.in_ok-add_all.ensures.added c.requires.begun in
     let p = err_from_is_err_and c.from_residual-in_err-finish.result c.from_residual-in_err-finish.ensures.1 in
-    rw (p.1, p.2) tt
+    rw (p.1, p.2)
+    (not_replayed c.args.format settings (seen g.S.Source.left g.S.Source.faults c.args.source.now c.sweep_all.new.source) c.in_err-finish.field-0.0
+    (c.in_err-finish.ensures.named _ settings (c.in_ok-tally.ensures.swept.told settings begun)))
 
 pub finish-requires : goal.finish-requires
 finish-requires g c =

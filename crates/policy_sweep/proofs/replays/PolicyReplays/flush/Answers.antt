@@ -1,7 +1,9 @@
 use Rattle.std.proofs.Common.{◌<◌, sym, subst, arith, length, slice_index_or}
+use Rattle.std.proofs.lemmas.Result.{err_from_is_err_and}
 use Rattle.policy_model.specs.declared.names.PolicyName.TheVariants.{Lru}
 use Rattle.policy_sweep.specs.Running.{Advances, IsAnyRunning, Setting}
-use Rattle.policy_sweep.proofs.Gone.{gone-through}
+use Rattle.policy_sweep.specs.Replays.{NamesSetting}
+use Rattle.policy_sweep.proofs.Gone.{gone-through, named-setting}
 use Rattle.policy_sweep.proofs.replays.PolicyReplays.flush.Goals as goal
 
 -- past the end
@@ -31,3 +33,8 @@ pub returns-clause-gone : goal.returns-clause-gone
 returns-clause-gone c = λ told objects settings t h.
     gone-through told objects settings t c.args.self.now (record { running = c.go_through_all.new.running; batch = c.clear.new.self }) c.go_through_all.ensures.each c.clear.ensures.items
     (λ i d below. subst (λ b. Advances b (slice_index_or c.args.self.now.running.items i d) (slice_index_or c.go_through_all.new.running.items i d)) c.deref.ensures.value (c.in_ok-go_through_all.ensures.more i d below)) h
+
+pub returns-in_err-go_through_all-clause-named : goal.returns-in_err-go_through_all-clause-named
+returns-in_err-go_through_all-clause-named c =
+    let p = err_from_is_err_and c.from_residual.result c.from_residual.ensures.1 in
+    rw (p.1, p.2) (λ told objects settings t h. named-setting told objects settings t c.args.self.now c.in_err-go_through_all.field-0.0 h c.in_err-go_through_all.ensures.named)
