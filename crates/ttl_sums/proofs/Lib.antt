@@ -1,0 +1,7 @@
+mod Objects
+mod Places
+mod Ranges
+mod Walking
+pub mod Next
+mod Sums
+mod Rows
