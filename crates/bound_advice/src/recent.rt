@@ -12,7 +12,7 @@ use trace_lines::{is_blank, trim_cr};
 const KEPT: usize = 131_072;
 
 // How many there is room for.
-const ROOM: usize = 262_144;
+const ROOM: usize = 393_216;
 
 // The bytes of a block, by which no line is refused.
 const BLOCK: u64 = 4096;
@@ -22,7 +22,7 @@ const BLOCK: u64 = 4096;
 pub(crate) struct Recent {
     bytes: Vec<u8>,
     are_all: bool,
-    ghost has_room: { 262144 ≤ vec_capacity bytes },
+    ghost has_room: { 393216 ≤ vec_capacity bytes },
 }
 
 // Whether a text is no line of a layout of lines.
@@ -68,6 +68,19 @@ fn is_refused(format: Option<Format>, line: &[u8]) -> bool
     !is_blank(text) && is_no_line(format, text)
 }
 
+// Forgets so many bytes, which are at least as many as those behind them. These are moved to the front by one copy.
+fn forget_first(bytes: &mut Vec<u8>, count: usize)
+    requires within { count ≤ vec_len bytes.old }
+    requires half { vec_len bytes.old ≤ count + count }
+    ensures last { bytes.new.items ≡ drop count bytes.old.items }
+    ensures capacity { vec_capacity bytes.new ≡ vec_capacity bytes.old }
+{
+    let left = bytes.len() - count;
+    let (front, last) = bytes.split_at_mut(count);
+    front[..left].copy_from_slice(&last[..left]);
+    bytes.truncate(left);
+}
+
 impl Recent {
     /// No byte was read yet.
     pub(crate) fn new(alloc: Global) -> Result<Self, NoMemory>
@@ -82,18 +95,19 @@ impl Recent {
 
     // Forgets all bytes but the last that are kept.
     fn forget(&mut self)
+        requires many { 262144 ≤ vec_len self.old.bytes }
         ensures last { self.new.bytes.items ≡ drop (length self.old.bytes.items - 131072) self.old.bytes.items }
         ensures all { self.new.are_all ≡ true → (self.old.are_all ≡ true) × (self.new.bytes.items ≡ self.old.bytes.items) }
     {
-        let gone = self.bytes.len().saturating_sub(KEPT);
-        self.are_all = self.are_all && gone == 0;
-        self.bytes.drain(..gone);
+        let gone = self.bytes.len() - KEPT;
+        forget_first(&mut self.bytes, gone);
+        self.are_all = false;
     }
 
     // Makes room for so many bytes. If they don't fit, all are forgotten but the last that are kept.
     fn make_room(&mut self, count: usize)
         requires { count ≤ 131072 }
-        ensures room { vec_len self.new.bytes + count ≤ 262144 }
+        ensures room { vec_len self.new.bytes + count ≤ 393216 }
         ensures last { KeepsLast self.old.bytes.items self.new.bytes.items [] self.old.are_all self.new.are_all }
     {
         if self.bytes.len() > ROOM - count {
@@ -103,7 +117,7 @@ impl Recent {
 
     // Puts a piece behind the bytes that are kept. There is room for it.
     fn append(&mut self, piece: &[u8])
-        requires { vec_len self.old.bytes + length piece.now ≤ 262144 }
+        requires { vec_len self.old.bytes + length piece.now ≤ 393216 }
         ensures bytes { self.new.bytes.items ≡ self.old.bytes.items ++ piece.now }
         ensures are_all { self.new.are_all ≡ self.old.are_all }
     {

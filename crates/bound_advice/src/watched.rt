@@ -21,7 +21,7 @@ pub struct Watched<S: Drop> {
 }
 
 impl<S: Source + Drop> Watched<S> {
-    /// Watches a source from here on. Takes 256 KiB.
+    /// Watches a source from here on. Takes 384 KiB.
     pub fn new(alloc: Global, source: S) -> Result<Self, NoMemory>
         ensures source { IfOk result (λ watched. watched.source ≡ source) }
         ensures none_read { IfOk result (λ watched. watched.recent.bytes.items ≡ []) }

@@ -97,6 +97,28 @@ fn time_of(layout: Layout, text: &[u8]) -> Result<u64, NumFault>
     }
 }
 
+// What a line with a word of a form with marks or volumes asks for, or one of blocks. It stands apart, so that the other forms
+// stay in registers.
+#[inline(never)]
+fn other_content(layout: Layout, text: &[u8]) -> Result<LineContent<'_>, LineKind>
+    requires layout { IsLayout layout }
+    requires records { is_of_records layout ≡ true → length text.now ≤ 24 }
+    ensures content { named_of result ≡ untimed_content layout text.now }
+    ensures range { IfOk result (λ content. IsSpan content.span) }
+    ensures volume { IfOk result (λ content. IfSome content.volume (λ _. HasVolumes layout)) }
+{
+    match layout {
+        Layout::Webcache => Ok(of_no_volume(trace_webcache::parse(text)?)),
+        Layout::MarkedWebcache => Ok(of_marked(trace_webcache::parse_marked(text)?)),
+        Layout::Arc => Ok(of_no_volume(trace_arc::parse(text)?)),
+        Layout::Msr { block } | Layout::MsrReads { block } => Ok(of_volume(
+            trace_msr::parse(text, block)?,
+            layout.has_marks(),
+        )),
+        Layout::Oracle => Ok(of_no_volume(whole_record(text)?)),
+    }
+}
+
 // What a line with a word or a record asks for, whatever its time.
 #[inline(always)]
 fn untimed_content(layout: Layout, text: &[u8]) -> Result<LineContent<'_>, LineKind>
@@ -108,11 +130,8 @@ fn untimed_content(layout: Layout, text: &[u8]) -> Result<LineContent<'_>, LineK
 {
     match layout {
         Layout::Webcache => Ok(of_no_volume(trace_webcache::parse(text)?)),
-        Layout::MarkedWebcache => Ok(of_marked(trace_webcache::parse_marked(text)?)),
-        Layout::Arc => Ok(of_no_volume(trace_arc::parse(text)?)),
-        Layout::Msr { block } => Ok(of_volume(trace_msr::parse(text, block)?, false)),
-        Layout::MsrReads { block } => Ok(of_volume(trace_msr::parse(text, block)?, true)),
         Layout::Oracle => Ok(of_no_volume(whole_record(text)?)),
+        _ => Ok(other_content(layout, text)?),
     }
 }
 
@@ -158,7 +177,7 @@ fn content_named(format: Format, text: &[u8]) -> Result<LineContent<'_>, LineKin
     if format.fresh.idle.is_none() {
         untimed_content(format.layout, text)
     } else {
-        timed_content(format.layout, text)
+        Ok(timed_content(format.layout, text)?)
     }
 }
 

@@ -65,7 +65,7 @@ fn note_last(noted: &mut StaleRequests, stream: &RequestStream)
 
 impl RequestReader {
     ghost use Rattle.trace_any.specs.FirstLines.{GoesToRequest, StopsNoFurther};
-    ghost use Rattle.trace_any.specs.Readers.{AnswersAgain, GivesRequest, err_of, fresh, last_fills, notes_of, with_fault};
+    ghost use Rattle.trace_any.specs.Readers.{AnswersAgain, GivesRequest, NotesAnswer, err_of, fresh, last_fills, notes_of, with_fault};
 
     /// A reader of a trace of this form, within these limits. It takes its buffer here, and later memory for each volume, and
     /// if a request can be stale for each object and id, and two bits for each request.
@@ -88,14 +88,7 @@ impl RequestReader {
         self.stream.dropped()
     }
 
-    /// What is noted of the requests, if some can be stale.
-    pub fn noted(&self) -> &StaleRequests
-        ensures { noted_of result.now ≡ self.now.seen.noted }
-    {
-        &self.noted
-    }
-
-    /// The same, once no more requests are asked for.
+    /// What is noted of the requests, if some can be stale, once no more requests are asked for.
     pub fn into_noted(self) -> StaleRequests
         ensures { noted_of result ≡ self.seen.noted }
     {
@@ -127,6 +120,13 @@ impl RequestReader {
         self.stream.last_fills()
     }
 
+    /// The time of that request, if times are asked for, and else 0.
+    pub fn last_time(&self) -> u64
+        ensures { result ≡ self.now.ahead.stamp.time }
+    {
+        self.stream.last_time()
+    }
+
     /// The next request, or None at the end.
     pub fn next<S: Source>(
         &mut self,
@@ -140,6 +140,7 @@ impl RequestReader {
         ensures again { AnswersAgain self.old self.new result (seen S.left S.faults source.old source.new) }
         ensures size { IfOk result (λ found. IfSome found (λ x. (1 ≤ x.size) × (x.size ≤ 2 ^ 48))) }
         ensures format { self.new.format ≡ self.old.format }
+        ensures noted { NotesAnswer self.old self.new result }
         ensures few { (self.new.limits ≡ self.old.limits) × (self.new.given ≤ self.new.limits.requests) × (self.new.limits.requests < 2 ^ 32) }
         ensures ahead { length self.new.lines.held ≤ 65536 }
         ensures reads { ReadsSource TraceFault.ReadFault (seen S.left S.faults source.old source.new) result }
@@ -161,15 +162,15 @@ impl RequestReader {
         Ok(found)
     }
 
-    // Whether the blocks that are left of the last line are more than there is room for.
-    pub(crate) fn passes_limit(&self) -> bool
+    /// Whether the blocks that are left of the last line are more than there is room for.
+    pub fn passes_limit(&self) -> bool
         ensures { result ≡ nat_lt (self.now.limits.requests - self.now.given) self.now.ahead.count }
     {
         self.stream.passes_limit()
     }
 
-    // Refuses all that is left, for this reason.
-    pub(crate) fn refuse_rest(&mut self, fault: TraceFault) -> TraceFault
+    /// Refuses all that is left, for this reason, which it answers from now on.
+    pub fn refuse_rest(&mut self, fault: TraceFault) -> TraceFault
         ensures fault { result ≡ fault }
         ensures kept { self.new ≡ with_fault self.old (Some fault) }
     {
