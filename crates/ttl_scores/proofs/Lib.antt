@@ -1,0 +1,3 @@
+mod Rows
+mod Long
+pub mod Known
