@@ -1,11 +1,11 @@
 -- What was asked for too long ago was written too long ago: so marks of what is stale by an idle time change no score with a ttl.
-use Rattle.std.proofs.Common.{◌≡◌, ℕ, zero, suc, ◌+◌, ◌<◌, ◌≤◌, ◌∙◌, sym, refl, ap, max, Bool, true, false, not, ◌&&◌, ◌||◌, cond, nat_le, List, [], ◌∷◌, length, arith, ⊎_elim, fold, take, None, Some, Any}
+use Rattle.std.proofs.Common.{◌≡◌, ℕ, zero, suc, ◌+◌, ◌<◌, ◌≤◌, ◌∙◌, sym, refl, ap, max, Bool, true, false, not, ◌&&◌, ◌||◌, cond, nat_le, List, [], ◌∷◌, length, arith, ⊎_elim, fold, get_or, take, None, Some, Any}
 use Rattle.std.specs.List.{list_any, range_with_len}
 use Rattle.std.proofs.Math.Nat.{le-max_left, mul-le-mul_left}
 use Rattle.std.proofs.lemmas.Bool.{cases_eq, cases_Bool, both_ways, and_parts, leb-true, ltb-true}
 use Rattle.std.proofs.lemmas.List.Folds.{Any-from_list_any}
 use Rattle.std.proofs.lemmas.List.FromFn.{get_or-map-range_with_len, get_or-range_with_len, length-range_with_len}
-use Rattle.std.proofs.lemmas.List.Sums.{sum_by-le-sum_by}
+use Rattle.std.proofs.lemmas.List.Sums.{fold_more, sum_by-le-sum_by}
 use Rattle.cache_model.specs.declared.objects.Object.{Object}
 use Rattle.cache_model.specs.Claim.{Terms, counts, before_request, gain_of, holds, is_latest, no_object, only_fills, request_at, same_object, score, terms_of}
 use Rattle.cache_model.specs.Objects.{is_first, numbers_of}
@@ -32,6 +32,12 @@ clock_before times n = fold max 0 (take n times)
 
 pub clock-next : (times : List ℕ) (t : ℕ) → clock times t ≡ clock_before times (suc t)
 clock-next times t = let e : t + 1 ≡ suc t = omega arith in ap (clock_before times) e
+
+-- it is the greater of the clock so far and the time
+pub clock-more : (times : List ℕ) (t before after : ℕ) → t < length times → before ≡ clock_before times t → after ≡ max before (get_or times t 0)
+    → after ≡ clock times t
+clock-more times t before after within before_is after_is =
+    after_is ∙ ap (λ c. max c (get_or times t 0)) before_is ∙ sym (fold_more max 0 times t 0 within)
 
 module _ (fills : List Bool) (trace : List Object) (times : List ℕ) (ttl : ℕ) (contents : List (List Object)) where
   abbrev written : ℕ → Object → ℕ

@@ -1,8 +1,9 @@
 mod Rows
 pub mod Starts
 pub mod Objects
-mod Within
-mod Idle
+pub mod Numbered
+pub mod Within
+pub mod Idle
 mod Shorter
 mod Longer
 mod Misses

@@ -1,26 +1,17 @@
 -- What is known of each object after the first requests, and what the next one adds.
-use Rattle.std.proofs.Common.{◌≡◌, ◌≢◌, ℕ, suc, ◌+◌, ◌<◌, ◌≤◌, ◌∙◌, sym, ap, Bool, true, false, not, ◌&&◌, cond, nat_le, List, length, arith, ⊎_elim, fold, get_or, max, position, replicate, set, Some, sum_by, take}
+use Rattle.std.proofs.Common.{◌≡◌, ℕ, suc, ◌+◌, ◌<◌, ◌≤◌, ◌∙◌, sym, refl, subst, ap, Bool, true, false, not, ◌&&◌, cond, nat_le, List, length, arith, get_or, position, replicate, set, Some, sum_by}
 use Rattle.std.specs.List.{range_with_len}
-use Rattle.std.proofs.lemmas.Bool.{cases_eq, cases_lt}
-use Rattle.std.proofs.lemmas.List.{get_or-replicate, get_or-set_other, get_or-set_same, length-replicate, length-set}
-use Rattle.std.proofs.lemmas.List.Quantifiers.{position-Some}
-use Rattle.std.proofs.lemmas.List.Sums.{fold_more}
-use Rattle.std.proofs.lemmas.Map.Keys.{apart_from_distinct}
 use Rattle.cache_model.specs.declared.objects.Object.{Object}
-use Rattle.cache_model.specs.Claim.{Terms, contents_of, counts, gain_of, held_before, holds, is_kept, no_object, only_fills, request_at, same_object}
+use Rattle.cache_model.specs.Claim.{Terms, contents_of, counts, gain_of, held_before, holds, is_kept, only_fills, request_at, same_object}
 use Rattle.cache_model.specs.Objects.{objects_of}
-use Rattle.cache_model.proofs.Duality.{same_object-refl, same_object-true}
+use Rattle.cache_model.proofs.Duality.{same_object-refl}
 use Rattle.cache_model.proofs.Scores.{before_request-contents_of}
 use Rattle.cache_model.proofs.Streams.{sum_by-range_last}
 use Rattle.cache_model.proofs.Written.{holds-own}
 use Rattle.freshness.specs.Stale.{clock}
 use Rattle.ttl_laws.specs.Fresh.{is_fresh_hit, writes_anew, written_at}
-use Rattle.ttl_laws.proofs.Objects.{objects-apart}
+use Rattle.ttl_laws.proofs.Numbered.{AreOf, of-none, of-own, of-same, of-set}
 use Rattle.ttl_scores.specs.Written.{writes_own}
-
--- the object of this number
-abbrev pub object_at : List Object → ℕ → Object
-object_at trace k = get_or (objects_of trace) k no_object
 
 -- what request t earns, and what it writes past the warm-up
 abbrev pub earned_at : Terms → List Object → List ℕ → ℕ → List Bool → ℕ → ℕ
@@ -39,12 +30,6 @@ sum-more f t before more after before_is more_is adds =
     let last : sum_by f (range_with_len 0 (t + 1)) ≡ sum_by f (range_with_len 0 t) + f t
     = ap (λ n. sum_by f (range_with_len 0 n)) next ∙ sum_by-range_last f t in
     omega (arith, before_is, more_is, adds, last)
-
--- the clock, one request later
-pub clock-next : (times : List ℕ) (t before after : ℕ) → t < length times → before ≡ fold max 0 (take t times) → after ≡ max before (get_or times t 0)
-    → after ≡ clock times t
-clock-next times t before after within before_is after_is =
-    after_is ∙ ap (λ c. max c (get_or times t 0)) before_is ∙ sym (fold_more max 0 times t 0 within)
 
 -- what is earned by a request is what its object gains by a fresh hit
 pub earned-found : (terms : Terms) (trace : List Object) (times : List ℕ) (ttl : ℕ) (keeps : List Bool) (t earned : ℕ) (object : Object) (fresh : Bool)
@@ -69,29 +54,6 @@ pub size-le : (past : Bool) (size most : ℕ) → size ≤ most → cond past si
 size-le true size most small = small
 size-le false size most small = omega arith
 
-module _ (trace : List Object) (t number : ℕ) (numbered : position (same_object (request_at trace t)) (objects_of trace) ≡ Some number) where
-  abbrev x : Object
-  x = request_at trace t
-
-  found : (number < length (objects_of trace)) × (same_object x (object_at trace number) ≡ true)
-      × ((k : ℕ) → k < number → same_object x (object_at trace k) ≡ false)
-  found = position-Some (same_object x) (objects_of trace) number no_object numbered
-
-  -- the object of the request stands at its number
-  pub object_at-number : object_at trace number ≡ x
-  object_at-number = sym (same_object-true x (object_at trace number) found.1)
-
-  -- and at no other place
-  pub object_at-other : (k : ℕ) → k < length (objects_of trace) → k ≢ number → same_object x (object_at trace k) ≡ false
-  object_at-other k low apart =
-      ⊎_elim
-      (λ (before : k < number). found.2 k before)
-      (λ (after : number ≤ k).
-      let later : number < k = omega arith in
-      ap (λ y. same_object y (object_at trace k)) (sym object_at-number)
-      ∙ apart_from_distinct same_object (objects_of trace) number k no_object (objects-apart trace) later low)
-      (cases_lt k number)
-
 module _ (fills : List Bool) (trace : List Object) (times : List ℕ) (ttl : ℕ) (keeps : List Bool) where
   -- what the keeps stand for
   abbrev contents : List (List Object)
@@ -101,16 +63,12 @@ module _ (fills : List Bool) (trace : List Object) (times : List ℕ) (ttl : ℕ
   written n x = written_at fills trace times ttl contents n x
 
   -- of each object the clock at the last of the first n requests that wrote it
-  pub record HasClocks (n : ℕ) (clocks : List ℕ) : Type 0 where
-    pub known : length clocks ≡ length (objects_of trace)
-    pub each : (k : ℕ) → k < length (objects_of trace) → get_or clocks k 0 ≡ written n (object_at trace k)
+  abbrev pub HasClocks : ℕ → List ℕ → Type 0
+  HasClocks n clocks = AreOf trace (written n) clocks
 
   -- nothing was written before the first request
   pub clocks-first : (objects : ℕ) → objects ≡ length (objects_of trace) → HasClocks 0 (replicate objects 0)
-  clocks-first objects all = record {
-    known = length-replicate objects 0 ∙ all;
-    each = λ k low. get_or-replicate objects k 0 0 (omega (arith, low, all));
-  }
+  clocks-first objects all = of-none trace (written 0) objects all (λ x. refl)
 
   module _ (t : ℕ) (within : t < length trace) where
     abbrev own : Object
@@ -153,58 +111,21 @@ module _ (fills : List Bool) (trace : List Object) (times : List ℕ) (ttl : ℕ
 
     module _ (number : ℕ) (numbered : position (same_object (request_at trace t)) (objects_of trace) ≡ Some number)
         (clocks : List ℕ) (has : HasClocks t clocks) where
-      number_low : number < length (objects_of trace)
-      number_low = (found trace t number numbered).0
-
       -- what is kept at the number of an object is the clock at its last write
       pub clock-kept : get_or clocks number 0 ≡ written t own
-      clock-kept = has.each number number_low ∙ ap (written t) (object_at-number trace t number numbered)
+      clock-kept = of-own trace t number numbered (written t) (written (t + 1)) clocks has written-other
 
       -- a request that writes notes its clock
       pub clocks-written : (now : ℕ) (after : List ℕ) → now ≡ clock times t → writes_own fills trace times ttl contents t ≡ true
           → after ≡ set clocks number now → HasClocks (t + 1) after
-      clocks-written now after now_is writes noted = record {
-        known = ap length noted ∙ length-set clocks number now ∙ has.known;
-        each = λ k low. ap (λ list. get_or list k 0) noted ∙ at k low;
-      }
-        where
-          low_clocks : number < length clocks
-          low_clocks = omega (arith, number_low, has.known)
-
-          at : (k : ℕ) → k < length (objects_of trace) → get_or (set clocks number now) k 0 ≡ written (t + 1) (object_at trace k)
-          at k low =
-              ⊎_elim
-              (λ (same : k ≡ number).
-              ap (λ j. get_or (set clocks number now) j 0) same
-              ∙ get_or-set_same clocks number now 0 low_clocks
-              ∙ now_is
-              ∙ sym (written-own ∙ ap (λ b. cond b (clock times t) (written t own)) writes)
-              ∙ ap (written (t + 1)) (sym (object_at-number trace t number numbered))
-              ∙ ap (λ j. written (t + 1) (object_at trace j)) (sym same))
-              (λ (other : k ≢ number).
-              get_or-set_other clocks number k now 0 other
-              ∙ has.each k low
-              ∙ sym (written-other (object_at trace k) (object_at-other trace t number numbered k low other)))
-              (cases_eq k number)
+      clocks-written now after now_is writes noted =
+          subst (AreOf trace (written (t + 1))) (sym noted)
+          (of-set trace t number numbered (written t) (written (t + 1)) clocks has written-other now
+          (written-own ∙ ap (λ b. cond b (clock times t) (written t own)) writes ∙ sym now_is))
 
       -- and one that doesn't notes nothing
       pub clocks-unwritten : (after : List ℕ) → writes_own fills trace times ttl contents t ≡ false → after ≡ clocks → HasClocks (t + 1) after
-      clocks-unwritten after none same_list = record {
-        known = ap length same_list ∙ has.known;
-        each = λ k low. ap (λ list. get_or list k 0) same_list ∙ at k low;
-      }
-        where
-          at : (k : ℕ) → k < length (objects_of trace) → get_or clocks k 0 ≡ written (t + 1) (object_at trace k)
-          at k low =
-              ⊎_elim
-              (λ (same : k ≡ number).
-              has.each k low
-              ∙ ap (λ j. written t (object_at trace j)) same
-              ∙ ap (written t) (object_at-number trace t number numbered)
-              ∙ sym (written-own ∙ ap (λ b. cond b (clock times t) (written t own)) none)
-              ∙ ap (written (t + 1)) (sym (object_at-number trace t number numbered))
-              ∙ ap (λ j. written (t + 1) (object_at trace j)) (sym same))
-              (λ (other : k ≢ number).
-              has.each k low
-              ∙ sym (written-other (object_at trace k) (object_at-other trace t number numbered k low other)))
-              (cases_eq k number)
+      clocks-unwritten after none same_list =
+          subst (AreOf trace (written (t + 1))) (sym same_list)
+          (of-same trace t number numbered (written t) (written (t + 1)) clocks has written-other
+          (written-own ∙ ap (λ b. cond b (clock times t) (written t own)) none))

@@ -11,7 +11,8 @@ use Rattle.ttl_sums.specs.declared.request.Request.{Request}
 use Rattle.ttl_sums.specs.Entries.{AsksNext, IsAsked, IsBegun, WasEntry, entry_at, no_entry, with_entry}
 use Rattle.ttl_sums.specs.Walked.{HasWalked, IsEntryOf, IsNext, IsNumberAt, Priced, objects_before}
 use Rattle.ttl_sums.specs.Worths.{Worths}
-use Rattle.ttl_sums.proofs.Objects.{few_before, new-first, number_low, object_at, object_at-number, object_at-other, objects-known, objects-new}
+use Rattle.ttl_laws.proofs.Numbered.{object_at, object_at-number, object_at-other}
+use Rattle.ttl_sums.proofs.Objects.{few_before, new-first, number_low, objects-known, objects-new}
 use Rattle.ttl_sums.proofs.Places.{entry_at-number, entry_at-other, length-known, length-new, other-low, with_entry-known, with_entry-new}
 use Rattle.ttl_sums.proofs.Walking.{entry-above, entry-begun, entry-other, entry-own}
 
@@ -25,7 +26,7 @@ module _ (p : Priced) (n number : ℕ) (old : Worths) (h : HasWalked p n n old) 
   was-entry e was =
       ⊎_elim
       (λ (low : number < length old.objects).
-      subst (λ y. IsEntryOf p n y e) (object_at-number p.trace n number within numbered)
+      subst (λ y. IsEntryOf p n y e) (object_at-number p.trace n number numbered)
       (subst (IsEntryOf p n (object_at p.trace number)) (sym (was.known low)) (h.each number low)))
       (λ (high : length old.objects ≤ number).
       entry-begun p n e (new-first p.trace n number within numbered (omega (arith, high, h.objects))) (was.new high))
@@ -63,7 +64,7 @@ module _ (p : Priced) (n number : ℕ) (old : Worths) (h : HasWalked p n n old) 
         (λ (same : k ≡ number).
         let stands : entry_at new.objects k ≡ e =
         ap (entry_at new.objects) same ∙ ap (λ es. entry_at es number) entries ∙ entry_at-number old.objects number e known in
-        let is : object_at p.trace k ≡ x = ap (object_at p.trace) same ∙ object_at-number p.trace n number within numbered in
+        let is : object_at p.trace k ≡ x = ap (object_at p.trace) same ∙ object_at-number p.trace n number numbered in
         subst (λ y. IsEntryOf p (suc n) y (entry_at new.objects k)) (sym is) (subst (IsEntryOf p (suc n) x) (sym stands) own))
         (λ (apart : k ≢ number).
         let longer : k < length (with_entry old.objects number e) = omega (arith, low, ap length entries) in
@@ -71,7 +72,7 @@ module _ (p : Priced) (n number : ℕ) (old : Worths) (h : HasWalked p n n old) 
         let stands : entry_at new.objects k ≡ entry_at old.objects k = ap (λ es. entry_at es k) entries ∙ entry_at-other old.objects number e k there apart in
         let some : k < length (objects_of p.trace) = omega (arith, there, h.objects, few_before p.trace n (omega arith)) in
         subst (IsEntryOf p (suc n) (object_at p.trace k)) (sym stands)
-        (entry-other p n (object_at p.trace k) (entry_at old.objects k) (object_at-other p.trace n number within numbered k some apart) (h.each k there)))
+        (entry-other p n (object_at p.trace k) (entry_at old.objects k) (object_at-other p.trace n number numbered k some apart) (h.each k there)))
         (cases_eq k number);
   }
 

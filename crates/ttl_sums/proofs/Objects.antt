@@ -4,8 +4,6 @@ use Rattle.std.specs.List.{range_with_len}
 use Rattle.std.proofs.lemmas.Bool.{both_ways, cases_eq, cases_lt}
 use Rattle.std.proofs.lemmas.List.{get_or_append_left, get_or_push, map-append}
 use Rattle.std.proofs.lemmas.List.Elements.{filter-append}
-use Rattle.std.proofs.lemmas.List.Quantifiers.{position-Some}
-use Rattle.std.proofs.lemmas.Map.Keys.{apart_from_distinct}
 use Rattle.cache_model.specs.declared.objects.Object.{Object}
 use Rattle.cache_model.specs.Claim.{no_object, request_at, same_object}
 use Rattle.cache_model.specs.Objects.{IsFirst, IsNext, is_first, objects_of}
@@ -13,12 +11,8 @@ use Rattle.cache_model.proofs.DifferentObjects.{is_first-yes}
 use Rattle.cache_model.proofs.Duality.{same_object-refl, same_object-true}
 use Rattle.cache_model.proofs.Eligible.{range-suc}
 use Rattle.cache_model.proofs.Scores.{first_or_next}
-use Rattle.ttl_laws.proofs.Objects.{objects-apart}
+use Rattle.ttl_laws.proofs.Numbered.{object_at, object_at-other}
 use Rattle.ttl_sums.specs.Walked.{objects_before}
-
--- the object of this number
-abbrev pub object_at : List Object → ℕ → Object
-object_at trace k = slice_index_or (objects_of trace) k no_object
 
 module _ (trace : List Object) where
   -- the object of request n, if it is its first
@@ -117,32 +111,13 @@ module _ (trace : List Object) where
     abbrev x : Object
     x = request_at trace n
 
-    found : (number < length (objects_of trace)) × (same_object x (object_at trace number) ≡ true)
-        × ((k : ℕ) → k < number → same_object x (object_at trace k) ≡ false)
-    found = position-Some (same_object x) (objects_of trace) number no_object numbered
-
-    -- the object stands at its number
-    pub object_at-number : object_at trace number ≡ x
-    object_at-number = sym (same_object-true x (object_at trace number) found.1)
-
-    -- and at no other place
-    pub object_at-other : (k : ℕ) → k < length (objects_of trace) → k ≢ number → same_object x (object_at trace k) ≡ false
-    object_at-other k low apart =
-        ⊎_elim
-        (λ (before : k < number). found.2 k before)
-        (λ (after : number ≤ k).
-        let later : number < k = omega arith in
-        ap (λ y. same_object y (object_at trace k)) (sym object_at-number)
-        ∙ apart_from_distinct same_object (objects_of trace) number k no_object (objects-apart trace) later low)
-        (cases_lt k number)
-
     -- so each place that it has is its number
     one_place : (m i : ℕ) → m ≤ length trace → IsPlace m x i → i ≡ number
     one_place m i short place =
         ⊎_elim (λ (same : i ≡ number). same)
         (λ (apart : i ≢ number).
         let is : object_at trace i ≡ x = object_at-before m i short place.0 ∙ place.1 in
-        let differs : same_object x (object_at trace i) ≡ false = object_at-other i (omega (arith, few_before m short, place.0)) apart in
+        let differs : same_object x (object_at trace i) ≡ false = object_at-other trace n number numbered i (omega (arith, few_before m short, place.0)) apart in
         absurd (both_ways (same_object x (object_at trace i)) differs (ap (same_object x) is ∙ same_object-refl x)))
         (cases_eq i number)
 

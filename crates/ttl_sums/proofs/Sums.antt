@@ -11,7 +11,8 @@ use Rattle.ttl_sums.specs.declared.entry.Entry.{Entry}
 use Rattle.ttl_sums.specs.Entries.{entry_at, no_entry}
 use Rattle.ttl_sums.specs.Walked.{HasWalked, IsEntryOf, Priced, bound_of, objects_before, worth_before, worths_before}
 use Rattle.ttl_sums.specs.Worths.{IsWithin, Worths}
-use Rattle.ttl_sums.proofs.Objects.{object_at, object_at-before}
+use Rattle.ttl_laws.proofs.Numbered.{object_at}
+use Rattle.ttl_sums.proofs.Objects.{object_at-before}
 use Rattle.ttl_sums.proofs.Places.{top_of}
 
 -- sums over two lists are equal if they are place by place

@@ -7,8 +7,9 @@ use Rattle.cache_model.specs.Objects.{objects_of}
 use Rattle.cache_rules.proofs.Earning.{earned_of-le}
 use Rattle.freshness.specs.Stale.{clock}
 use Rattle.ttl_laws.specs.Fresh.{is_fresh_hit, written_at}
+use Rattle.ttl_laws.proofs.Idle.{clock-more}
 use Rattle.ttl_scores.specs.Written.{writes_own}
-use Rattle.ttl_scores.proofs.Known.{HasClocks, earned_at, written_past, sum-more, clock-next, earned-found, written-found, size-le, fresh-found, writes-found, clock-kept, clocks-written, clocks-unwritten}
+use Rattle.ttl_scores.proofs.Known.{HasClocks, earned_at, written_past, sum-more, earned-found, written-found, size-le, fresh-found, writes-found, clock-kept, clocks-written, clocks-unwritten}
 use Rattle.ttl_scores.proofs.totals.fresh_totals.Goals as goal
 use Rattle.ttl_scores.proofs.totals.fresh_totals.Goals.{then-anew, else-anew}
 
@@ -26,7 +27,7 @@ loop-t-preserved c =
     let has : HasClocks fills trace times ttl keeps t clocks = c.loop-t.invariant.clocks in
     let within : t < length trace = omega (arith, c.loop-t-test.true, c.len-t-end.ensures.requests) in
     let now : c.max-clock.result ≡ clock times t
-    = clock-next times t c.loop-t.clock c.max-clock.result (omega (arith, within, c.requires.one_time_each)) c.loop-t.invariant.clock c.max-clock.ensures in
+    = clock-more times t c.loop-t.clock c.max-clock.result (omega (arith, within, c.requires.one_time_each)) c.loop-t.invariant.clock c.max-clock.ensures in
     let low : number < length clocks = omega (arith, c.request-number.ensures.known, has.known) in
     let last : c.index.result.now ≡ written_at fills trace times ttl (contents_of trace keeps) t (request_at trace t)
     = get_or_read clocks number c.index.result.now low c.index.ensures 0

@@ -1,0 +1,5 @@
+mod Rows
+mod Writing
+mod Fresh
+mod Claims
+mod Clocks
