@@ -3,4 +3,4 @@
 
 mod read_timed;
 
-pub use read_timed::{TimedTrace, load_timed};
+pub use read_timed::{TimedRequests, load_timed};

@@ -17,7 +17,7 @@ use trace_any::{Format, Limits, RequestReader, TraceFault, TraceNotes, builder_f
 
 /// The requests of a trace with the time of each, in the unit of the trace, and what is told beside them.
 #[derive(Drop)]
-pub struct TimedTrace {
+pub struct TimedRequests {
     pub requests: Trace,
     pub times: Vec<u64>,
     pub notes: TraceNotes,
@@ -68,7 +68,7 @@ pub fn load_timed<S: Source>(
     alloc: Global,
     format: Format,
     source: &mut S,
-) -> Result<TimedTrace, TraceFault>
+) -> Result<TimedRequests, TraceFault>
     requires format { IsFormat format }
     requires timed { can_end format.fresh ≡ true }
     ensures loaded { IfOk result (λ read. IsLoaded format (seen S.left S.faults source.old source.new) read.requests read.notes) }
@@ -80,7 +80,7 @@ pub fn load_timed<S: Source>(
 {
     let mut reader = RequestReader::new(alloc, format, Limits::full())?;
     let (requests, times) = read_on(alloc, &mut reader, source)?;
-    Ok(TimedTrace {
+    Ok(TimedRequests {
         requests,
         times,
         notes: reader.into_notes(),
