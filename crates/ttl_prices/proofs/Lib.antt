@@ -1,0 +1,3 @@
+mod Paid
+mod Found
+mod Rows
