@@ -1,0 +1,5 @@
+pub mod Scaling
+pub mod Scheduled
+pub mod RecordsOf
+pub mod MadeOf
+mod Rows
