@@ -10,7 +10,7 @@ use Rattle.std.proofs.lemmas.Str.Ascii.{IsAscii-cons, IsAscii-nil}
 use Rattle.cert_checker.specs.declared.invalid.InvalidKind.{InvalidKind}
 use Rattle.cert_checker.specs.declared.invalid.InvalidKind.TheVariants as invalid
 use Rattle.bound_report.specs.declared.Impossible.{Impossible}
-use Rattle.bound_report.specs.declared.Impossible.TheVariants.{First, Size, Stale, Load}
+use Rattle.bound_report.specs.declared.Impossible.TheVariants.{First, Size, Stale, Age, Load}
 use Rattle.trace_lines.specs.declared.line.LineKind.{LineKind}
 use Rattle.trace_lines.specs.declared.line.LineKind.TheVariants.{TooFewWords, BadNumber, SizeTooLarge, BadRange, BadType, QuoteByte, TooLong, PartRecord}
 use Rattle.bound_terms.specs.declared.words.WordKind.{WordKind}
@@ -142,6 +142,7 @@ impossible-line (First request) capacity =
 impossible-line (Size request size) capacity = above-line (codes "request") (codes ": size") request size capacity refl refl
 impossible-line (Stale request) capacity =
     behind (entry (codes "request") request) (codes ": stale\n") (entry-low (codes "request") request refl) (line (codes ": stale") refl)
+impossible-line (Age request age ttl) capacity = above-line (codes "request") (codes ": age") request age ttl refl refl
 impossible-line (Load step load) capacity = above-line (codes "step") (codes ": load") step load capacity refl refl
 
 pub IsAsciiLine-refusal_line : (refusal : Refusal) → IsAsciiLine (refusal_line refusal)

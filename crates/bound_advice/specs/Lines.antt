@@ -4,6 +4,7 @@ use Rattle.std.specs.declared.option.Option.{Option}
 use Rattle.std.specs.Option.{is_some}
 use Rattle.std.specs.Result.{is_err}
 use Rattle.std.specs.List.{slice_split}
+use Rattle.freshness.specs.Stale.{stale_after}
 use Rattle.trace_any.specs.declared.format.Format.{Format}
 use Rattle.trace_any.specs.declared.format.Layout.{Layout}
 use Rattle.trace_any.specs.declared.format.Layout.TheVariants as form
@@ -32,7 +33,7 @@ has_no_time form.Oracle text = false
 
 -- whether a text is no line of a form, if one is known, in which a time is looked at only if objects expire
 abbrev pub is_no_line : Option Format → List ℕ → Bool
-is_no_line (Some format) text = is_no_line_in format.layout text || (is_some format.fresh.idle && has_no_time format.layout text)
+is_no_line (Some format) text = is_no_line_in format.layout text || (is_some (stale_after format.fresh) && has_no_time format.layout text)
 is_no_line None text = false
 
 -- whether a form refuses a line: one that is not blank, and none of the form without a last CR

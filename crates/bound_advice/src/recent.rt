@@ -57,7 +57,7 @@ fn is_no_line(format: Option<Format>, text: &[u8]) -> bool
         return false;
     };
     is_no_line_in(format.layout, text)
-        || format.fresh.idle.is_some() && has_no_time(format.layout, text)
+        || format.fresh.is_timed() && has_no_time(format.layout, text)
 }
 
 // Whether a form refuses a line.

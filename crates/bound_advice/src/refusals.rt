@@ -85,6 +85,9 @@ fn impossible_advice(cause: Impossible) -> &'static str {
         Impossible::Stale { .. } => {
             "an object that is stale when it is asked for is no hit: compare the time after which it expires in the simulator, and whether another size of an id replaces it"
         }
+        Impossible::Age { .. } => {
+            "an object that was written longer ago than the ttl is no hit, and a hit does not write it anew: compare the ttl of the simulator, its unit, and from when it counts"
+        }
         Impossible::Load { .. } => {
             "what these hits need does not fit in the capacity at this step: look for a size that is left out, an object that entered when it was not asked for, or one that is stored once its fetch completes: give that moment a line with w, and count=reads"
         }

@@ -128,11 +128,12 @@ unfolding digits
 refined_reads = refl
 
 -- objects expire after 60: what is said of stale requests stands behind the line of the capacity
-bounds_of_stale : rendered (record { warmup = 0; counted = Some 1; stale = record { idle = Some 60; late = 3; stale = Some 1 } }) (bound_lines (record { header = pair_header true 1; objects = 1; dropped = 0; mode = Flow Whole; price = 0; intervals = 1; written = None })) ≡ text_of (
+bounds_of_stale : rendered (record { warmup = 0; counted = Some 1; stale = record { idle = Some 60; ttl = Some 90; late = 3; stale = Some 1 } }) (bound_lines (record { header = pair_header true 1; objects = 1; dropped = 0; mode = Flow Whole; price = 0; intervals = 1; written = None })) ≡ text_of (
     codes "trace requests 2 objects 1 dropped 0"
     ∷ codes "counted 1"
     ∷ codes "capacity 10 objective object"
     ∷ codes "idle 60"
+    ∷ codes "ttl 90"
     ∷ codes "late 3"
     ∷ codes "stale 1"
     ∷ codes "mode flow window all form exact"
@@ -146,7 +147,7 @@ unfolding digits
 bounds_of_stale = refl
 
 -- objects are replaced and none expires: that no request was stale is said, and that none was late is not
-curve_of_stale : rendered (record { warmup = 0; counted = Some 6; stale = record { idle = None; late = 0; stale = Some 0 } }) (curve_lines (record { requests = 6; objects = 3; dropped = 0 }) 1 (hits_with (record { size = 1; hits = 0 ∷ 0 ∷ 1 ∷ 3 ∷ [] }))) ≡ text_of (
+curve_of_stale : rendered (record { warmup = 0; counted = Some 6; stale = record { idle = None; ttl = None; late = 0; stale = Some 0 } }) (curve_lines (record { requests = 6; objects = 3; dropped = 0 }) 1 (hits_with (record { size = 1; hits = 0 ∷ 0 ∷ 1 ∷ 3 ∷ [] }))) ≡ text_of (
     codes "trace requests 6 objects 3 dropped 0"
     ∷ codes "counted 6"
     ∷ codes "size 1"

@@ -33,6 +33,7 @@ numbers_of text = record {
   dropped = number_at text (codes "trace requests ") 7;
   capacity = number_at text (codes "capacity ") 2;
   idle = number_at text (codes "idle ") 2;
+  ttl = number_at text (codes "ttl ") 2;
   stale = number_at text (codes "stale ") 2;
   window = number_at text (codes "mode flow window ") 4;
   denominator = number_at text (codes "unit ") 6;

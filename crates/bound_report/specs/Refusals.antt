@@ -4,7 +4,7 @@ use Rattle.cache_model.specs.Texts.{entry}
 use Rattle.cert_checker.specs.declared.invalid.InvalidKind.{InvalidKind}
 use Rattle.cert_checker.specs.declared.invalid.InvalidKind.TheVariants as invalid
 use Rattle.hit_judge.specs.declared.causes.Impossible.{Impossible}
-use Rattle.hit_judge.specs.declared.causes.Impossible.TheVariants.{First, Size, Stale, Load}
+use Rattle.hit_judge.specs.declared.causes.Impossible.TheVariants.{First, Size, Stale, Age, Load}
 use Rattle.trace_lines.specs.declared.line.LineKind.{LineKind}
 use Rattle.trace_lines.specs.declared.line.LineKind.TheVariants.{TooFewWords, BadNumber, SizeTooLarge, BadRange, BadType, QuoteByte, TooLong, PartRecord}
 use Rattle.bound_report.specs.declared.refusal.LimitName.{LimitName}
@@ -68,6 +68,7 @@ abbrev pub impossible_text : Impossible → ℕ → List ℕ
 impossible_text (First request) capacity = entry (codes "request") request ++ codes ": first of its object\n"
 impossible_text (Size request size) capacity = entry (entry (entry (codes "request") request ++ codes ": size") size ++ codes " above") capacity ++ codes "\n"
 impossible_text (Stale request) capacity = entry (codes "request") request ++ codes ": stale\n"
+impossible_text (Age request age ttl) capacity = entry (entry (entry (codes "request") request ++ codes ": age") age ++ codes " above") ttl ++ codes "\n"
 impossible_text (Load step load) capacity = entry (entry (entry (codes "step") step ++ codes ": load") load ++ codes " above") capacity ++ codes "\n"
 
 -- the line that says why a run stopped; of flags that are too few or too many it names the first line that is missing or too many

@@ -16,10 +16,15 @@ abbrev pub counted_lines : Option ℕ → List (List ℕ)
 counted_lines None = []
 counted_lines (Some counted) = entry (codes "counted") counted ∷ []
 
--- a line of the time after which objects expire, if they do
+-- a line of the time for which objects stay fresh after they were asked for, if it has an end
 abbrev pub idle_lines : Option ℕ → List (List ℕ)
 idle_lines None = []
 idle_lines (Some idle) = entry (codes "idle") idle ∷ []
+
+-- a line of the time for which they stay fresh after they were written, if it has an end
+abbrev pub ttl_lines : Option ℕ → List (List ℕ)
+ttl_lines None = []
+ttl_lines (Some ttl) = entry (codes "ttl") ttl ∷ []
 
 -- a line of how many requests were late, if some were
 abbrev pub late_lines : ℕ → List (List ℕ)
@@ -32,7 +37,7 @@ stale_lines (Some stale) = entry (codes "stale") stale ∷ []
 
 -- the lines of stale requests
 abbrev pub stale_count_lines : StaleCounts → List (List ℕ)
-stale_count_lines counts = idle_lines counts.idle ++ late_lines counts.late ++ stale_lines counts.stale
+stale_count_lines counts = idle_lines counts.idle ++ ttl_lines counts.ttl ++ late_lines counts.late ++ stale_lines counts.stale
 
 -- a line of the warm-up, if there is one
 abbrev pub warmup_lines : ℕ → List (List ℕ)
@@ -46,7 +51,7 @@ rendered counting lines =
 
 -- no request can be stale, and none was late
 abbrev pub none_stale : StaleCounts
-none_stale = record { idle = None; late = 0; stale = None }
+none_stale = record { idle = None; ttl = None; late = 0; stale = None }
 
 -- no warm-up, no marks, and no stale requests
 abbrev pub uncounted : Counting

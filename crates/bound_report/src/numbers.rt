@@ -14,8 +14,10 @@ pub struct Numbers {
     pub objects: Option<u64>,
     pub dropped: Option<u64>,
     pub capacity: Option<u64>,
-    /// The time after which objects expire, if they do.
+    /// How long objects stay fresh after they were asked for, if that has an end.
     pub idle: Option<u64>,
+    /// How long they stay fresh after they were written, if that has an end.
+    pub ttl: Option<u64>,
     pub stale: Option<u64>,
     /// The steps of a window, if the steps are cut into windows.
     pub window: Option<u64>,
@@ -61,6 +63,7 @@ pub fn numbers_in(text: &[u8]) -> Numbers
         dropped: number_at(text, b"trace requests ", 7),
         capacity: number_at(text, b"capacity ", 2),
         idle: number_at(text, b"idle ", 2),
+        ttl: number_at(text, b"ttl ", 2),
         stale: number_at(text, b"stale ", 2),
         window: number_at(text, b"mode flow window ", 4),
         denominator: number_at(text, b"unit ", 6),

@@ -204,6 +204,12 @@ fn push_impossible(text: &mut RefusalText, cause: Impossible, capacity: u64)
             text.push_entry(b"request", request as u128);
             text.push(b": stale\n");
         }
+        Impossible::Age { request, age, ttl } => {
+            text.push_entry(b"request", request as u128);
+            text.push_entry(b": age", age as u128);
+            text.push_entry(b" above", ttl as u128);
+            text.push(b"\n");
+        }
         Impossible::Load { step, load } => {
             text.push_entry(b"step", step as u128);
             text.push_entry(b": load", load);

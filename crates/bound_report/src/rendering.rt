@@ -1,18 +1,19 @@
 //! A report as a value, and its text.
 ghost use Rattle.std.specs.Prelude.{◌≡◌, ◌++◌, IfOk, OnErr, OnOk};
 ghost use Rattle.cache_model.specs.Texts.{text_of};
-ghost use Rattle.bound_report.specs.Rendering.{counted_lines, idle_lines, late_lines, none_stale, rendered, stale_count_lines, stale_lines};
+ghost use Rattle.bound_report.specs.Rendering.{counted_lines, idle_lines, late_lines, none_stale, rendered, stale_count_lines, stale_lines, ttl_lines};
 ghost use Rattle.bound_report.specs.Rendering.{uncounted, warmup_lines};
 
 use crate::report::{append, entry_line};
 use bound_base::NoMemory;
 use std::alloc::Global;
 
-/// What is said of stale requests: `idle` is the time after which objects expire, if they do, in the unit of the trace's times;
-/// `late` requests had a time below the clock before them; and `stale` of all requests were stale, which is known if one can be.
+/// What is said of stale requests: `idle` is the time for which objects stay fresh after they were asked for, and `ttl` the time
+/// for which they do after they were written, if these have ends, in the unit of the trace's times; `late` requests had a time below the clock before them; and `stale` of all requests were stale, which is known if one can be.
 #[derive(Clone, Copy, Debug, PartialEq, Eq)]
 pub struct StaleCounts {
     pub idle: Option<u64>,
+    pub ttl: Option<u64>,
     pub late: u64,
     pub stale: Option<u32>,
 }
@@ -24,6 +25,7 @@ impl StaleCounts {
     {
         StaleCounts {
             idle: None,
+            ttl: None,
             late: 0,
             stale: None,
         }
@@ -93,12 +95,22 @@ fn append_counted(text: &mut Vec<u8>, counted: Option<u32>) -> Result<(), NoMemo
     }
 }
 
-// Appends the time after which objects expire, if they do.
+// Appends the time for which objects stay fresh after they were asked for, if it has an end.
 fn append_idle(text: &mut Vec<u8>, idle: Option<u64>) -> Result<(), NoMemory>
     ensures { OnOk result (text.new.items ≡ text.old.items ++ text_of (idle_lines idle)) }
 {
     match idle {
         Some(idle) => append(text, &entry_line(b"idle", u128::from(idle))),
+        None => Ok(()),
+    }
+}
+
+// Appends the time for which objects stay fresh after they were written, if it has an end.
+fn append_ttl(text: &mut Vec<u8>, ttl: Option<u64>) -> Result<(), NoMemory>
+    ensures { OnOk result (text.new.items ≡ text.old.items ++ text_of (ttl_lines ttl)) }
+{
+    match ttl {
+        Some(ttl) => append(text, &entry_line(b"ttl", u128::from(ttl))),
         None => Ok(()),
     }
 }
@@ -128,6 +140,7 @@ fn append_stale_counts(text: &mut Vec<u8>, counts: StaleCounts) -> Result<(), No
     ensures { OnOk result (text.new.items ≡ text.old.items ++ text_of (stale_count_lines counts)) }
 {
     append_idle(text, counts.idle)?;
+    append_ttl(text, counts.ttl)?;
     append_late(text, counts.late)?;
     append_stale(text, counts.stale)
 }

@@ -13,7 +13,7 @@ abbrev pub counting_from : Format → ℕ → Requests → Staleness → Countin
 counting_from format warmup trace noted = record {
   warmup = warmup;
   counted = counted_in format warmup trace noted;
-  stale = record { idle = format.fresh.idle; late = noted.late; stale = stale_in format trace noted };
+  stale = record { idle = format.fresh.idle; ttl = format.fresh.ttl; late = noted.late; stale = stale_in format trace noted };
 }
 
 -- from the warm-up of a certificate on
@@ -22,4 +22,4 @@ counting_of format h trace noted = counting_from format h.warmup trace noted
 
 -- as a check found it
 abbrev pub counting_found : Format → Passed → Counting
-counting_found format p = record { warmup = p.verdict.header.warmup; counted = p.counted; stale = record { idle = format.fresh.idle; late = p.late; stale = p.stale } }
+counting_found format p = record { warmup = p.verdict.header.warmup; counted = p.counted; stale = record { idle = format.fresh.idle; ttl = format.fresh.ttl; late = p.late; stale = p.stale } }

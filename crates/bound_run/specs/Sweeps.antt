@@ -59,7 +59,7 @@ abbrev pub counting_of_swept : Format → ℕ → Swept → Counting
 counting_of_swept format warmup swept = record {
   warmup = warmup;
   counted = swept.counted;
-  stale = record { idle = format.fresh.idle; late = swept.late; stale = swept.stale };
+  stale = record { idle = format.fresh.idle; ttl = format.fresh.ttl; late = swept.late; stale = swept.stale };
 }
 
 -- the policies of a list, if there is one

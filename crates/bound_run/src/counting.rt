@@ -78,6 +78,7 @@ pub(crate) fn counting_from(
         counted: counted_in(format, warmup, trace, noted),
         stale: StaleCounts {
             idle: format.fresh.idle,
+            ttl: format.fresh.ttl,
             late: noted.late,
             stale: stale_in(format, trace, noted),
         },
@@ -112,6 +113,7 @@ pub(crate) fn counting_found(format: Format, passed: &Passed) -> Counting
         counted: passed.counted,
         stale: StaleCounts {
             idle: format.fresh.idle,
+            ttl: format.fresh.ttl,
             late: passed.late,
             stale: passed.stale,
         },

@@ -55,6 +55,7 @@ fn counting_of_sweep(format: Format, warmup: u32, swept: &Swept) -> Counting
         counted: swept.counted,
         stale: StaleCounts {
             idle: format.fresh.idle,
+            ttl: format.fresh.ttl,
             late: swept.late,
             stale: swept.stale,
         },

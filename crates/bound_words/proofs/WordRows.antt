@@ -319,11 +319,11 @@ unfolding plan
 reads_alone = refl
 
 -- objects expire and are replaced
-lives : plan (codes "check" ∷ codes "t" ∷ codes "c" ∷ codes "idle=600" ∷ codes "format=webcache" ∷ codes "replace=yes" ∷ []) ≡ Ok (Check (record { layout = Webcache; fresh = record { idle = Some 600; replace = true } }))
+lives : plan (codes "check" ∷ codes "t" ∷ codes "c" ∷ codes "idle=600" ∷ codes "format=webcache" ∷ codes "replace=yes" ∷ []) ≡ Ok (Check (record { layout = Webcache; fresh = record { idle = Some 600; ttl = None; replace = true } }))
 unfolding plan
 lives = refl
 
-no_time : plan (codes "check" ∷ codes "t" ∷ codes "c" ∷ codes "idle=0" ∷ codes "format=oracle" ∷ codes "replace=no" ∷ []) ≡ Ok (Check (record { layout = Oracle; fresh = record { idle = Some 0; replace = false } }))
+no_time : plan (codes "check" ∷ codes "t" ∷ codes "c" ∷ codes "idle=0" ∷ codes "format=oracle" ∷ codes "replace=no" ∷ []) ≡ Ok (Check (record { layout = Oracle; fresh = record { idle = Some 0; ttl = None; replace = false } }))
 unfolding plan
 no_time = refl
 
@@ -352,6 +352,6 @@ replaced_in_a_curve : plan (codes "curve" ∷ codes "t" ∷ codes "idle=5" ∷ c
 unfolding plan
 replaced_in_a_curve = refl
 
-curve_of_fresh : plan (codes "curve" ∷ codes "t" ∷ codes "idle=5" ∷ codes "format=msr" ∷ []) ≡ Ok (Curve (record { layout = Msr 4096; fresh = record { idle = Some 5; replace = false } }))
+curve_of_fresh : plan (codes "curve" ∷ codes "t" ∷ codes "idle=5" ∷ codes "format=msr" ∷ []) ≡ Ok (Curve (record { layout = Msr 4096; fresh = record { idle = Some 5; ttl = None; replace = false } }))
 unfolding plan
 curve_of_fresh = refl

@@ -38,7 +38,7 @@ replaced_given operands = unwrap_or (option_and_then replaced_of (value_given (c
 
 -- how long objects stay fresh by the operands
 abbrev pub fresh_given : List (List ℕ) → Freshness
-fresh_given operands = record { idle = idle_given operands; replace = replaced_given operands }
+fresh_given operands = record { idle = idle_given operands; ttl = None; replace = replaced_given operands }
 
 -- the form of a layout whose objects stay fresh so long
 abbrev pub of_layout : Freshness → Layout → Format

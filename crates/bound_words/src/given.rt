@@ -76,6 +76,7 @@ fn fresh_given(operands: &[String]) -> Freshness
 {
     Freshness {
         idle: idle_given(operands),
+        ttl: None,
         replace: replaced_given(operands),
     }
 }

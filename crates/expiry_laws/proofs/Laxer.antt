@@ -12,7 +12,7 @@ use Rattle.cache_model.specs.Claim.{Terms, counts, terms_from, before_request, g
 use Rattle.cache_model.specs.Objects.{is_first, numbers_of}
 use Rattle.cache_model.proofs.Headline.{valid_bounds}
 use Rattle.freshness.specs.declared.fresh.Freshness.{Freshness}
-use Rattle.freshness.specs.Stale.{is_older, has_expired, is_replaced, is_stale, stale_marks}
+use Rattle.freshness.specs.Stale.{is_older, has_expired, is_replaced, is_stale, stale_after, stale_marks}
 use Rattle.expiry_laws.specs.Laws.{IsLonger, IsLaxer, LaxerScoresMore, LaxerBounds}
 
 -- what is older than a longer time is older than a shorter one
@@ -46,8 +46,8 @@ expired idle longer trace times t low =
 -- what is stale by a laxer freshness is by a stricter one
 stale : (strict lax : Freshness) (trace : List Object) (times : List ℕ) (t : ℕ) → IsLaxer strict lax → is_stale lax trace times t ≡ true → is_stale strict trace times t ≡ true
 stale strict lax trace times t laxer =
-    weaker (not (is_first trace t)) (has_expired lax.idle trace times t) (has_expired strict.idle trace times t) lax.replace strict.replace (is_replaced trace t)
-    (expired strict.idle lax.idle trace times t laxer.idle) laxer.replace
+    weaker (not (is_first trace t)) (has_expired (stale_after lax) trace times t) (has_expired (stale_after strict) trace times t) lax.replace strict.replace (is_replaced trace t)
+    (expired (stale_after strict) (stale_after lax) trace times t laxer.longer) laxer.replace
   where
     weaker : (before old older lax strict other : Bool) → (old ≡ true → older ≡ true) → (lax ≡ true → strict ≡ true)
         → (before && (old || (lax && other))) ≡ true → (before && (older || (strict && other))) ≡ true

@@ -13,7 +13,7 @@ use Rattle.cache_model.specs.Objects.{is_first}
 use Rattle.cache_model.proofs.Duality.{same_object-true}
 use Rattle.cache_model.proofs.Pairs.{same_object-sym}
 use Rattle.freshness.specs.declared.fresh.Freshness.{Freshness}
-use Rattle.freshness.specs.Stale.{can_end, clock, is_older, has_expired, is_replaced, is_latest_of_id}
+use Rattle.freshness.specs.Stale.{can_end, stale_after, clock, is_older, has_expired, is_replaced, is_latest_of_id}
 use Rattle.freshness.specs.Stale as trace_wide
 use Rattle.freshness.proofs.Ids.{pair-same, pair-sym, same_id-sym}
 use Rattle.freshness.specs.Seen.{Seen, id_of, is_old, is_other, is_stale, is_stale_since, same_id, with_size}
@@ -126,20 +126,20 @@ tells fresh trace times own t lengths within can =
     let known = seen_before fresh trace times own t in
     let found = last (λ a. same_object (request_at trace a) x) t in
     let like = last (λ a. trace_wide.same_id (request_at trace a) x) t in
-    let P = λ (a : ℕ). is_older fresh.idle times a t in
+    let P = λ (a : ℕ). is_older (stale_after fresh) times a t in
     let Q = λ (a : ℕ). not ((request_at trace a).size == x.size) in
     let now = now_is fresh trace times own lengths can t (omega (arith, within, lengths)) in
     let clocks = clocks_are fresh trace times own lengths can x t (omega (arith, within)) in
-    let expired : has_expired fresh.idle trace times t ≡ option_map_or P found false = any_last same_object same_object-equals trace x P t (omega (arith, within)) in
+    let expired : has_expired (stale_after fresh) trace times t ≡ option_map_or P found false = any_last same_object same_object-equals trace x P t (omega (arith, within)) in
     let replaced : is_replaced trace t ≡ option_map_or Q like false = any_last trace_wide.same_id same_id-equals trace x Q t (omega (arith, within)) in
     let first : not (is_first trace t) ≡ is_some found = not_not (list_any (same_object x) (take t trace)) ∙ any_first same_object same_object-equals trace x t (omega (arith, within)) in
     let other : (fresh.replace && is_other x.size (lookup (same_id (id_of x)) known.sizes)) ≡ (fresh.replace && is_replaced trace t)
     = by fresh.replace (λ is. ap (is_other x.size) (sizes_are fresh trace times own lengths can x t is) ∙ (last_other (λ a. (request_at trace a).size) like x.size ∙ sym replaced)) refl in
-    ap (λ b. b && is_stale_since fresh.idle (max known.clock (time_at times t)) (lookup (same_object x) known.clocks) (fresh.replace && is_other x.size (lookup (same_id (id_of x)) known.sizes))) can
-    ∙ (ap (λ c. is_stale_since fresh.idle c (lookup (same_object x) known.clocks) (fresh.replace && is_other x.size (lookup (same_id (id_of x)) known.sizes))) now
-    ∙ (ap (λ l. is_stale_since fresh.idle (clock times t) l (fresh.replace && is_other x.size (lookup (same_id (id_of x)) known.sizes))) clocks
-    ∙ (ap (is_stale_since fresh.idle (clock times t) (option_map (clock times) found)) other
-    ∙ (last_older fresh.idle times found t (fresh.replace && is_replaced trace t)
+    ap (λ b. b && is_stale_since (stale_after fresh) (max known.clock (time_at times t)) (lookup (same_object x) known.clocks) (fresh.replace && is_other x.size (lookup (same_id (id_of x)) known.sizes))) can
+    ∙ (ap (λ c. is_stale_since (stale_after fresh) c (lookup (same_object x) known.clocks) (fresh.replace && is_other x.size (lookup (same_id (id_of x)) known.sizes))) now
+    ∙ (ap (λ l. is_stale_since (stale_after fresh) (clock times t) l (fresh.replace && is_other x.size (lookup (same_id (id_of x)) known.sizes))) clocks
+    ∙ (ap (is_stale_since (stale_after fresh) (clock times t) (option_map (clock times) found)) other
+    ∙ (last_older (stale_after fresh) times found t (fresh.replace && is_replaced trace t)
     ∙ (ap (λ b. b && (option_map_or P found false || (fresh.replace && is_replaced trace t))) (sym first)
     ∙ ap (λ b. not (is_first trace t) && (b || (fresh.replace && is_replaced trace t))) (sym expired))))))
   where
@@ -148,7 +148,7 @@ tells fresh trace times own t lengths within can =
     by false same is = refl
 
 -- none is, if none can be
-never : (trace : List Object) (times : List ℕ) (t : ℕ) → t < length trace → trace_wide.is_stale (record { idle = None; replace = false }) trace times t ≡ false
+never : (trace : List Object) (times : List ℕ) (t : ℕ) → t < length trace → trace_wide.is_stale (record { idle = None; ttl = None; replace = false }) trace times t ≡ false
 never trace times t within =
     let x = request_at trace t in
     let none : has_expired None trace times t ≡ false
@@ -164,10 +164,12 @@ never trace times t within =
     and_false false = refl
 
 pub seen_tells_stale : SeenTellsStale
-seen_tells_stale fresh trace times own t lengths within = by fresh.idle fresh.replace
+seen_tells_stale fresh trace times own t lengths within = by fresh.idle fresh.ttl fresh.replace
   where
-    by : (idle : Option ℕ) (replace : Bool) → is_stale (record { idle = idle; replace = replace }) (seen_before (record { idle = idle; replace = replace }) trace times own t) (request_at trace t) (time_at times t)
-        ≡ trace_wide.is_stale (record { idle = idle; replace = replace }) trace times t
-    by None false = sym (never trace times t within)
-    by (Some idle) replace = tells (record { idle = Some idle; replace = replace }) trace times own t lengths within refl
-    by None true = tells (record { idle = None; replace = true }) trace times own t lengths within refl
+    by : (idle ttl : Option ℕ) (replace : Bool) → is_stale (record { idle = idle; ttl = ttl; replace = replace }) (seen_before (record { idle = idle; ttl = ttl; replace = replace }) trace times own t) (request_at trace t) (time_at times t)
+        ≡ trace_wide.is_stale (record { idle = idle; ttl = ttl; replace = replace }) trace times t
+    by None None false = sym (never trace times t within)
+    by (Some idle) None replace = tells (record { idle = Some idle; ttl = None; replace = replace }) trace times own t lengths within refl
+    by (Some idle) (Some ttl) replace = tells (record { idle = Some idle; ttl = Some ttl; replace = replace }) trace times own t lengths within refl
+    by None (Some ttl) replace = tells (record { idle = None; ttl = Some ttl; replace = replace }) trace times own t lengths within refl
+    by None None true = tells (record { idle = None; ttl = None; replace = true }) trace times own t lengths within refl

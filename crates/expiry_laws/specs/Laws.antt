@@ -8,7 +8,7 @@ use Rattle.cache_model.specs.declared.certificates.Record.{Record}
 use Rattle.cache_model.specs.Certificates.{IsValid}
 use Rattle.cache_model.specs.Claim.{IsAllowed, only_fills, request_at, score, terms_from}
 use Rattle.freshness.specs.declared.fresh.Freshness.{Freshness}
-use Rattle.freshness.specs.Stale.{is_stale, stale_marks}
+use Rattle.freshness.specs.Stale.{is_stale, stale_after, stale_marks}
 use Rattle.freshness.specs.Seen.{Seen, nothing_seen, with_seen}
 use Rattle.freshness.specs.Seen as seen
 
@@ -18,9 +18,9 @@ IsLonger idle None = Unit {0}
 IsLonger None (Some longer) = ⊥
 IsLonger (Some idle) (Some longer) = idle ≤ longer
 
--- one freshness is laxer than another: objects stay fresh at least as long, and are replaced only if the other replaces them too
+-- one freshness is laxer than another: objects that were last asked for stay fresh at least as long, and are replaced only if the other replaces them too
 pub record IsLaxer (strict lax : Freshness) : Type 0 where
-  pub idle : IsLonger strict.idle lax.idle
+  pub longer : IsLonger (stale_after strict) (stale_after lax)
   pub replace : IsTrue lax.replace → IsTrue strict.replace
 
 -- whatever contents score, they score at least that with a laxer freshness

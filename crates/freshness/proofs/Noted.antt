@@ -6,12 +6,12 @@ use Rattle.cache_model.specs.declared.objects.Object.{Object}
 use Rattle.cache_model.specs.Claim.{same_object}
 use Rattle.freshness.specs.declared.fresh.Freshness.{Freshness}
 use Rattle.freshness.specs.declared.id.Id.{Id}
-use Rattle.freshness.specs.Stale.{can_end}
+use Rattle.freshness.specs.Stale.{can_end, stale_after}
 use Rattle.freshness.specs.Seen.{Seen, is_other, is_stale, is_stale_since, id_of, same_id, with_seen, with_size}
 
 -- a request that can be stale, by what was found of its object and of its id
 pub is_stale-found : (fresh : Freshness) (seen : Seen) (x : Object) (time clock : ℕ) (last : Option ℕ) (other stale : Bool) → can_end fresh ≡ true → clock ≡ max seen.clock time → last ≡ lookup (same_object x) seen.clocks
-    → other ≡ (fresh.replace && is_other x.size (lookup (same_id (id_of x)) seen.sizes)) → stale ≡ is_stale_since fresh.idle clock last other → stale ≡ is_stale fresh seen x time
+    → other ≡ (fresh.replace && is_other x.size (lookup (same_id (id_of x)) seen.sizes)) → stale ≡ is_stale_since (stale_after fresh) clock last other → stale ≡ is_stale fresh seen x time
 is_stale-found fresh seen x time clock last other stale can clock_is last_is other_is stale_is = rw (stale_is, clock_is, last_is, other_is, can) refl
 
 -- and what is known after it

@@ -7,11 +7,19 @@ use Rattle.freshness.specs.Stale.{clock, stale_marks}
 
 -- objects expire after this time, and are not replaced
 abbrev after : ℕ → Freshness
-after idle = record { idle = Some idle; replace = false }
+after idle = record { idle = Some idle; ttl = None; replace = false }
+
+-- and if they were written longer ago than a time of its own
+abbrev within : ℕ → ℕ → Freshness
+within idle ttl = record { idle = Some idle; ttl = Some ttl; replace = false }
+
+-- only what was written too long ago expires
+abbrev written : ℕ → Freshness
+written ttl = record { idle = None; ttl = Some ttl; replace = false }
 
 -- nothing expires, and another size of an id replaces what it had
 abbrev replaced : Freshness
-replaced = record { idle = None; replace = true }
+replaced = record { idle = None; ttl = None; replace = true }
 
 -- an object of an id of this size
 abbrev sized : ℕ → Object
@@ -30,6 +38,20 @@ stale_after_one = refl
 -- what is as old as the time is fresh
 stale_after_two : stale_marks (after 2) five evenly [] ≡ false ∷ false ∷ false ∷ false ∷ false ∷ []
 stale_after_two = refl
+
+-- what was written a time ago at least is stale after the lesser of the two
+stale_within_two_and_one : stale_marks (within 2 1) five evenly [] ≡ false ∷ true ∷ true ∷ true ∷ true ∷ []
+stale_within_two_and_one = refl
+
+stale_within_one_and_two : stale_marks (within 1 2) five evenly [] ≡ false ∷ true ∷ true ∷ true ∷ true ∷ []
+stale_within_one_and_two = refl
+
+written_after_one : stale_marks (written 1) five evenly [] ≡ false ∷ true ∷ true ∷ true ∷ true ∷ []
+written_after_one = refl
+
+-- by its last request alone what was written too long ago is not known
+written_after_two : stale_marks (written 2) five evenly [] ≡ false ∷ false ∷ false ∷ false ∷ false ∷ []
+written_after_two = refl
 
 -- a mark of its own stays
 marked_after_two : stale_marks (after 2) five evenly (true ∷ false ∷ true ∷ []) ≡ true ∷ false ∷ true ∷ false ∷ false ∷ []

@@ -9,7 +9,7 @@ use Rattle.cache_model.specs.Claim.{same_object}
 use Rattle.freshness.specs.declared.fresh.Freshness.{Freshness}
 use Rattle.freshness.specs.declared.id.Id.{Id}
 use Rattle.freshness.specs.declared.stale.StaleRequests.{StaleRequests}
-use Rattle.freshness.specs.Stale.{can_end}
+use Rattle.freshness.specs.Stale.{can_end, stale_after}
 
 -- what is noted of requests of which some can be stale: how many had a time below the clock before them, and of each whether it is stale and whether it only fills the cache by its own mark
 pub record Staleness : Type 0 where
@@ -71,7 +71,7 @@ is_stale_since idle clock (Some last) other = is_old idle last clock || other
 abbrev pub is_stale : Freshness → Seen → Object → ℕ → Bool
 is_stale fresh seen x time =
     can_end fresh
-    && is_stale_since fresh.idle (max seen.clock time) (lookup (same_object x) seen.clocks) (fresh.replace && is_other x.size (lookup (same_id (id_of x)) seen.sizes))
+    && is_stale_since (stale_after fresh) (max seen.clock time) (lookup (same_object x) seen.clocks) (fresh.replace && is_other x.size (lookup (same_id (id_of x)) seen.sizes))
 
 -- the sizes with that of one more request, if they are kept
 abbrev pub with_size : Bool → List (Id × ℕ) → Object → List (Id × ℕ)

@@ -1,5 +1,5 @@
 -- Times of requests, the clock, and which requests are stale.
-use Rattle.std.specs.Prelude.{ℕ, ◌+◌, ◌==◌, max, nat_lt, Bool, false, not, ◌&&◌, ◌||◌, List, fold, map, take, slice_range, None, Some}
+use Rattle.std.specs.Prelude.{ℕ, ◌+◌, ◌==◌, max, min, nat_lt, Bool, false, not, ◌&&◌, ◌||◌, List, fold, map, take, slice_range, None, Some}
 use Rattle.std.specs.declared.option.Option.{Option}
 use Rattle.std.specs.List.{list_any, range_with_len}
 use Rattle.std.specs.Option.{is_some}
@@ -10,11 +10,21 @@ use Rattle.freshness.specs.declared.fresh.Freshness.{Freshness}
 
 -- nothing expires, and nothing is replaced
 abbrev pub forever : Freshness
-forever = record { idle = None; replace = false }
+forever = record { idle = None; ttl = None; replace = false }
+
+-- the lesser of two times, of which each is given or not
+abbrev pub lesser_of : Option ℕ → Option ℕ → Option ℕ
+lesser_of None ttl = ttl
+lesser_of (Some idle) None = Some idle
+lesser_of (Some idle) (Some ttl) = Some (min idle ttl)
+
+-- after this time an object is stale, whatever a cache did: it was last asked for too long ago, or last written so long ago at least
+abbrev pub stale_after : Freshness → Option ℕ
+stale_after fresh = lesser_of fresh.idle fresh.ttl
 
 -- a request can be stale
 abbrev pub can_end : Freshness → Bool
-can_end fresh = is_some fresh.idle || fresh.replace
+can_end fresh = is_some (stale_after fresh) || fresh.replace
 
 -- the clock at request t: the greatest time of it and of all before it, so that a time that goes back counts as no time passed
 abbrev pub clock : List ℕ → ℕ → ℕ
@@ -46,7 +56,7 @@ is_replaced trace t =
 
 -- whether request t is stale: its object was asked for before, and has expired since, or its id was given another size
 abbrev pub is_stale : Freshness → List Object → List ℕ → ℕ → Bool
-is_stale fresh trace times t = not (is_first trace t) && (has_expired fresh.idle trace times t || (fresh.replace && is_replaced trace t))
+is_stale fresh trace times t = not (is_first trace t) && (has_expired (stale_after fresh) trace times t || (fresh.replace && is_replaced trace t))
 
 -- the marks of a trace in which stale requests only fill, whatever their own marks are
 abbrev pub stale_marks : Freshness → List Object → List ℕ → List Bool → List Bool

@@ -114,7 +114,7 @@ impl SeenObjects {
         let clock = self.clock.max(time);
         let other = note_size(fresh.replace, &mut self.sizes, object)?;
         let (_, last) = self.clocks.insert_full(object, clock)?;
-        let stale = is_stale_since(fresh.idle, clock, last, other);
+        let stale = is_stale_since(fresh.stale_after(), clock, last, other);
         self.late += one_if(time < self.clock);
         self.history = self.history.with(&Noted { stale, own, time });
         self.clock = clock;

@@ -18,6 +18,9 @@ pub enum Impossible {
     /// The flagged request is stale: its object expired or was replaced since it was last asked for. Its object is no larger
     /// than the capacity, and was asked for before.
     Stale { request: u32 },
+    /// The object of the flagged request was last written more than `ttl` ago: how long ago, by the clock, in the unit of the
+    /// trace's times.
+    Age { request: u32, age: u64, ttl: u64 },
     /// The sizes of the flagged intervals over the step sum to more than the capacity: that sum, in bytes.
     Load { step: u32, load: u128 },
 }

@@ -1,10 +1,10 @@
--- The lines of a report that may be there or not: how many requests count, three of stale requests, the written bytes, and the warm-up.
+-- The lines of a report that may be there or not: how many requests count, four of stale requests, the written bytes, and the warm-up.
 use Rattle.std.proofs.Common.{◌≡◌, ◌≢◌, ℕ, zero, suc, ◌∙◌, sym, refl, ap, true, List, [], ◌∷◌, ◌++◌, append_assoc, cond, if◌then◌else◌, ◌==◌, get_or, arith, codes, Some, None, Option, IfSome}
 use Rattle.std.specs.List.{AllByRecursion, list_all}
 use Rattle.std.proofs.lemmas.Bool.{ne_eqb}
 use Rattle.cache_model.specs.Texts.{entry}
 use Rattle.bound_report.specs.declared.rendering.StaleCounts.{StaleCounts}
-use Rattle.bound_report.specs.Rendering.{counted_lines, idle_lines, late_lines, stale_count_lines, stale_lines, warmup_lines}
+use Rattle.bound_report.specs.Rendering.{counted_lines, idle_lines, late_lines, stale_count_lines, stale_lines, ttl_lines, warmup_lines}
 use Rattle.bound_report.specs.Reports.{written_lines}
 use Rattle.report_laws.specs.Laws.{ArePrintableCounts, IsPrintable}
 use Rattle.report_laws.proofs.Lines.{Lacks, is_part, line_lacks, named, numbers_apart}
@@ -94,22 +94,30 @@ stale_before counts lines = optional (codes "stale") counts.stale lines
 abbrev pub late_before : StaleCounts → List (List ℕ) → List (List ℕ)
 late_before counts lines = optional (codes "late") (unless_zero counts.late) (stale_before counts lines)
 
+-- and that of the time for which objects stay fresh after they were written
+abbrev pub ttl_before : StaleCounts → List (List ℕ) → List (List ℕ)
+ttl_before counts lines = optional (codes "ttl") counts.ttl (late_before counts lines)
+
 -- lines, and before them those of stale requests that are there
 abbrev pub staled : StaleCounts → List (List ℕ) → List (List ℕ)
-staled counts lines = optional (codes "idle") counts.idle (late_before counts lines)
+staled counts lines = optional (codes "idle") counts.idle (ttl_before counts lines)
 
 -- the next line is none of these
 abbrev pub NoneOfStale : List (List ℕ) → Type 0
-NoneOfStale lines = BeginsOtherwise (codes "idle") lines × BeginsOtherwise (codes "late") lines × BeginsOtherwise (codes "stale") lines
+NoneOfStale lines = BeginsOtherwise (codes "idle") lines × BeginsOtherwise (codes "ttl") lines × BeginsOtherwise (codes "late") lines × BeginsOtherwise (codes "stale") lines
 
 -- so it is if it has another first letter
-pub none_of_stale : (lines : List (List ℕ)) (letter : ℕ) → get_or (get_or lines 0 []) 0 0 ≡ letter → letter ≢ 105 → letter ≢ 108 → letter ≢ 115 → NoneOfStale lines
-none_of_stale lines letter is no_i no_l no_s =
-    (λ n e. no_i (sym is ∙ bytes_at 0 _ _ e), λ n e. no_l (sym is ∙ bytes_at 0 _ _ e), λ n e. no_s (sym is ∙ bytes_at 0 _ _ e))
+pub none_of_stale : (lines : List (List ℕ)) (letter : ℕ) → get_or (get_or lines 0 []) 0 0 ≡ letter → letter ≢ 105 → letter ≢ 116 → letter ≢ 108 → letter ≢ 115 → NoneOfStale lines
+none_of_stale lines letter is no_i no_t no_l no_s =
+    (λ n e. no_i (sym is ∙ bytes_at 0 _ _ e), λ n e. no_t (sym is ∙ bytes_at 0 _ _ e), λ n e. no_l (sym is ∙ bytes_at 0 _ _ e), λ n e. no_s (sym is ∙ bytes_at 0 _ _ e))
 
 idle_lines-optional : (c : Option ℕ) (lines : List (List ℕ)) → idle_lines c ++ lines ≡ optional (codes "idle") c lines
 idle_lines-optional None lines = refl
 idle_lines-optional (Some n) lines = refl
+
+ttl_lines-optional : (c : Option ℕ) (lines : List (List ℕ)) → ttl_lines c ++ lines ≡ optional (codes "ttl") c lines
+ttl_lines-optional None lines = refl
+ttl_lines-optional (Some n) lines = refl
 
 stale_lines-optional : (c : Option ℕ) (lines : List (List ℕ)) → stale_lines c ++ lines ≡ optional (codes "stale") c lines
 stale_lines-optional None lines = refl
@@ -125,47 +133,60 @@ late_lines-optional late lines = ap (λ ls. ls ++ lines) (unless_zero_lines (cod
 pub stale_count_lines-staled : (counts : StaleCounts) (lines : List (List ℕ)) → stale_count_lines counts ++ lines ≡ staled counts lines
 stale_count_lines-staled counts lines =
     let idle = idle_lines counts.idle in
+    let ttl = ttl_lines counts.ttl in
     let late = late_lines counts.late in
-    append_assoc (idle ++ late) (stale_lines counts.stale) lines
-    ∙ append_assoc idle late (stale_lines counts.stale ++ lines)
-    ∙ ap (λ ls. idle ++ (late ++ ls)) (stale_lines-optional counts.stale lines)
-    ∙ ap (λ ls. idle ++ ls) (late_lines-optional counts.late (stale_before counts lines))
-    ∙ idle_lines-optional counts.idle (late_before counts lines)
+    append_assoc (idle ++ ttl ++ late) (stale_lines counts.stale) lines
+    ∙ append_assoc (idle ++ ttl) late (stale_lines counts.stale ++ lines)
+    ∙ append_assoc idle ttl (late ++ (stale_lines counts.stale ++ lines))
+    ∙ ap (λ ls. idle ++ (ttl ++ (late ++ ls))) (stale_lines-optional counts.stale lines)
+    ∙ ap (λ ls. idle ++ (ttl ++ ls)) (late_lines-optional counts.late (stale_before counts lines))
+    ∙ ap (λ ls. idle ++ ls) (ttl_lines-optional counts.ttl (late_before counts lines))
+    ∙ idle_lines-optional counts.idle (ttl_before counts lines)
 
 pub staled-append : (counts : StaleCounts) (lines behind : List (List ℕ)) → staled counts lines ++ behind ≡ staled counts (lines ++ behind)
 staled-append counts lines behind =
-    optional-append (codes "idle") counts.idle (late_before counts lines) behind
-    ∙ ap (optional (codes "idle") counts.idle) (optional-append (codes "late") (unless_zero counts.late) (stale_before counts lines) behind
-    ∙ ap (optional (codes "late") (unless_zero counts.late)) (optional-append (codes "stale") counts.stale lines behind))
+    optional-append (codes "idle") counts.idle (ttl_before counts lines) behind
+    ∙ ap (optional (codes "idle") counts.idle) (optional-append (codes "ttl") counts.ttl (late_before counts lines) behind
+    ∙ ap (optional (codes "ttl") counts.ttl) (optional-append (codes "late") (unless_zero counts.late) (stale_before counts lines) behind
+    ∙ ap (optional (codes "late") (unless_zero counts.late)) (optional-append (codes "stale") counts.stale lines behind)))
 
 pub staled_lacks : (counts : StaleCounts) (lines : List (List ℕ)) → ArePrintableCounts counts → AllByRecursion (Lacks 10) lines → AllByRecursion (Lacks 10) (staled counts lines)
-staled_lacks counts lines (idle, late, stale) lack =
-    optional_lacks (codes "idle") counts.idle (late_before counts lines) refl idle
+staled_lacks counts lines (idle, ttl, late, stale) lack =
+    optional_lacks (codes "idle") counts.idle (ttl_before counts lines) refl idle
+    (optional_lacks (codes "ttl") counts.ttl (late_before counts lines) refl ttl
     (optional_lacks (codes "late") (unless_zero counts.late) (stale_before counts lines) refl (unless_zero_small counts.late late)
-    (optional_lacks (codes "stale") counts.stale lines refl stale lack))
+    (optional_lacks (codes "stale") counts.stale lines refl stale lack)))
 
 -- no line of stale requests is one of late ones
 late_otherwise : (counts : StaleCounts) (lines : List (List ℕ)) → NoneOfStale lines → BeginsOtherwise (codes "late") (stale_before counts lines)
-late_otherwise counts lines none = optional_otherwise (codes "stale") (codes "late") counts.stale lines (λ m n e. omega (arith, bytes_at 0 _ _ e)) none.1
+late_otherwise counts lines none = optional_otherwise (codes "stale") (codes "late") counts.stale lines (λ m n e. omega (arith, bytes_at 0 _ _ e)) none.2
 
--- and none of both is one of the time after which objects expire
-idle_otherwise : (counts : StaleCounts) (lines : List (List ℕ)) → NoneOfStale lines → BeginsOtherwise (codes "idle") (late_before counts lines)
+-- and none of both is one of a time for which objects stay fresh
+ttl_otherwise : (counts : StaleCounts) (lines : List (List ℕ)) → NoneOfStale lines → BeginsOtherwise (codes "ttl") (late_before counts lines)
+ttl_otherwise counts lines none =
+    optional_otherwise (codes "late") (codes "ttl") (unless_zero counts.late) (stale_before counts lines) (λ m n e. omega (arith, bytes_at 0 _ _ e))
+    (optional_otherwise (codes "stale") (codes "ttl") counts.stale lines (λ m n e. omega (arith, bytes_at 0 _ _ e)) none.1)
+
+idle_otherwise : (counts : StaleCounts) (lines : List (List ℕ)) → NoneOfStale lines → BeginsOtherwise (codes "idle") (ttl_before counts lines)
 idle_otherwise counts lines none =
-    optional_otherwise (codes "late") (codes "idle") (unless_zero counts.late) (stale_before counts lines) (λ m n e. omega (arith, bytes_at 0 _ _ e))
-    (optional_otherwise (codes "stale") (codes "idle") counts.stale lines (λ m n e. omega (arith, bytes_at 0 _ _ e)) none.0)
+    optional_otherwise (codes "ttl") (codes "idle") counts.ttl (late_before counts lines) (λ m n e. omega (arith, bytes_at 0 _ _ e))
+    (optional_otherwise (codes "late") (codes "idle") (unless_zero counts.late) (stale_before counts lines) (λ m n e. omega (arith, bytes_at 0 _ _ e))
+    (optional_otherwise (codes "stale") (codes "idle") counts.stale lines (λ m n e. omega (arith, bytes_at 0 _ _ e)) none.0))
 
-same_counts : (c d : StaleCounts) → c.idle ≡ d.idle → c.late ≡ d.late → c.stale ≡ d.stale → c ≡ d
-same_counts c d idle late stale =
-    ap (λ t. record { idle = t; late = c.late; stale = c.stale }) idle
-    ∙ ap (λ n. record { idle = d.idle; late = n; stale = c.stale }) late
-    ∙ ap (λ n. record { idle = d.idle; late = d.late; stale = n }) stale
+same_counts : (c d : StaleCounts) → c.idle ≡ d.idle → c.ttl ≡ d.ttl → c.late ≡ d.late → c.stale ≡ d.stale → c ≡ d
+same_counts c d idle ttl late stale =
+    ap (λ t. record { idle = t; ttl = c.ttl; late = c.late; stale = c.stale }) idle
+    ∙ ap (λ t. record { idle = d.idle; ttl = t; late = c.late; stale = c.stale }) ttl
+    ∙ ap (λ n. record { idle = d.idle; ttl = d.ttl; late = n; stale = c.stale }) late
+    ∙ ap (λ n. record { idle = d.idle; ttl = d.ttl; late = d.late; stale = n }) stale
 
 -- what is said of stale requests is read, if the next line is none of that
 pub staled_apart : (c d : StaleCounts) (xs ys : List (List ℕ)) → ArePrintableCounts c → ArePrintableCounts d → NoneOfStale xs → NoneOfStale ys
     → staled c xs ≡ staled d ys → (c ≡ d) × (xs ≡ ys)
 staled_apart c d xs ys pc pd none_x none_y e =
-    let idle = optional_apart (codes "idle") c.idle d.idle (late_before c xs) (late_before d ys) refl pc.0 pd.0 (idle_otherwise c xs none_x) (idle_otherwise d ys none_y) e in
+    let idle = optional_apart (codes "idle") c.idle d.idle (ttl_before c xs) (ttl_before d ys) refl pc.0 pd.0 (idle_otherwise c xs none_x) (idle_otherwise d ys none_y) e in
+    let ttl = optional_apart (codes "ttl") c.ttl d.ttl (late_before c xs) (late_before d ys) refl pc.1 pd.1 (ttl_otherwise c xs none_x) (ttl_otherwise d ys none_y) idle.1 in
     let late = optional_apart (codes "late") (unless_zero c.late) (unless_zero d.late) (stale_before c xs) (stale_before d ys)
-    refl (unless_zero_small c.late pc.1) (unless_zero_small d.late pd.1) (late_otherwise c xs none_x) (late_otherwise d ys none_y) idle.1 in
-    let stale = optional_apart (codes "stale") c.stale d.stale xs ys refl pc.2 pd.2 none_x.2 none_y.2 late.1 in
-    (same_counts c d idle.0 (unless_zero_apart c.late d.late late.0) stale.0, stale.1)
+    refl (unless_zero_small c.late pc.2) (unless_zero_small d.late pd.2) (late_otherwise c xs none_x) (late_otherwise d ys none_y) ttl.1 in
+    let stale = optional_apart (codes "stale") c.stale d.stale xs ys refl pc.3 pd.3 none_x.3 none_y.3 late.1 in
+    (same_counts c d idle.0 ttl.0 (unless_zero_apart c.late d.late late.0) stale.0, stale.1)

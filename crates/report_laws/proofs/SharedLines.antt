@@ -79,7 +79,7 @@ mode_lacks Infinite price exact small = refl
 
 -- the line of the mode is none of stale requests
 pub mode_otherwise : (m : Mode) (price : ℕ) (exact : Bool) (lines : List (List ℕ)) → NoneOfStale (mode_line m price exact ∷ lines)
-mode_otherwise m price exact lines = none_of_stale (mode_line m price exact ∷ lines) 109 (first m) (λ e. omega arith) (λ e. omega arith) (λ e. omega arith)
+mode_otherwise m price exact lines = none_of_stale (mode_line m price exact ∷ lines) 109 (first m) (λ e. omega arith) (λ e. omega arith) (λ e. omega arith) (λ e. omega arith)
   where
     first : (m : Mode) → get_or (mode_line m price exact) 0 0 ≡ 109
     first (Flow window) = refl

@@ -18,7 +18,7 @@ use Rattle.bound_report.specs.Sweeps.{bound_line, bound_lines, capacity_lines, c
 use Rattle.report_laws.specs.Laws.{ArePrintable, IsPrintable, SweepsHaveOneReading, numbers_with_replays, point_numbers, replay_numbers_of, sweep_numbers, with_replays}
 use Rattle.report_laws.proofs.Lines.{After, Lacks, Part, Small, Words, is_part, line_lacks, lines_apart, named, numbers_apart}
 use Rattle.report_laws.proofs.OptionalLines.{BeginsOtherwise, NoneOfStale, bytes_at, late_before, none_of_stale, optional, optional-append, optional_apart, optional_lacks, optional_otherwise}
-use Rattle.report_laws.proofs.OptionalLines.{stale_before, staled, staled_apart, staled_lacks, unless_zero, unless_zero_apart, unless_zero_lines, unless_zero_small, warmed}
+use Rattle.report_laws.proofs.OptionalLines.{stale_before, staled, staled_apart, staled_lacks, ttl_before, unless_zero, unless_zero_apart, unless_zero_lines, unless_zero_small, warmed}
 use Rattle.report_laws.proofs.PolicyLines.{NoCounts, all_lack, bound_is_no_counts, counts_filtered, counts_split, small-split}
 use Rattle.report_laws.proofs.ReportLines.{lacks-both, none_behind, rendered-lines, same_counting, split_at}
 use Rattle.report_laws.proofs.SharedLines.{div_small, trace_apart, trace_lacks}
@@ -138,9 +138,9 @@ points_apart (x ∷ xs) (y ∷ ys) v w small small' pv pw e =
 
 -- the next line is none of stale requests
 points_otherwise : (xs : List (SweepPoint × List PolicyReplay)) (v : ℕ) → NoneOfStale (points_and_warmup xs v)
-points_otherwise [] zero = (none_behind (codes "idle"), none_behind (codes "late"), none_behind (codes "stale"))
-points_otherwise [] (suc v) = none_of_stale (warmed (suc v) []) 119 refl (λ e. omega arith) (λ e. omega arith) (λ e. omega arith)
-points_otherwise (x ∷ xs) v = none_of_stale (points_and_warmup (x ∷ xs) v) 99 refl (λ e. omega arith) (λ e. omega arith) (λ e. omega arith)
+points_otherwise [] zero = (none_behind (codes "idle"), none_behind (codes "ttl"), none_behind (codes "late"), none_behind (codes "stale"))
+points_otherwise [] (suc v) = none_of_stale (warmed (suc v) []) 119 refl (λ e. omega arith) (λ e. omega arith) (λ e. omega arith) (λ e. omega arith)
+points_otherwise (x ∷ xs) v = none_of_stale (points_and_warmup (x ∷ xs) v) 99 refl (λ e. omega arith) (λ e. omega arith) (λ e. omega arith) (λ e. omega arith)
 
 -- and none of a delay
 points_no_delay : (xs : List (SweepPoint × List PolicyReplay)) (v : ℕ) → BeginsOtherwise (codes "delay") (points_and_warmup xs v)
@@ -150,9 +150,10 @@ points_no_delay (x ∷ xs) v = λ n e. omega (arith, bytes_at 0 _ _ e)
 
 no_delay : (counts : StaleCounts) (lines : List (List ℕ)) → BeginsOtherwise (codes "delay") lines → BeginsOtherwise (codes "delay") (staled counts lines)
 no_delay counts lines other =
-    optional_otherwise (codes "idle") (codes "delay") counts.idle (late_before counts lines) (λ m n e. omega (arith, bytes_at 0 _ _ e))
+    optional_otherwise (codes "idle") (codes "delay") counts.idle (ttl_before counts lines) (λ m n e. omega (arith, bytes_at 0 _ _ e))
+    (optional_otherwise (codes "ttl") (codes "delay") counts.ttl (late_before counts lines) (λ m n e. omega (arith, bytes_at 0 _ _ e))
     (optional_otherwise (codes "late") (codes "delay") (unless_zero counts.late) (stale_before counts lines) (λ m n e. omega (arith, bytes_at 0 _ _ e))
-    (optional_otherwise (codes "stale") (codes "delay") counts.stale lines (λ m n e. omega (arith, bytes_at 0 _ _ e)) other))
+    (optional_otherwise (codes "stale") (codes "delay") counts.stale lines (λ m n e. omega (arith, bytes_at 0 _ _ e)) other)))
 
 -- how many capacities and policies there are
 abbrev sweep_parts : List Part

@@ -49,7 +49,7 @@ form_lacks false = refl
 
 -- the first of the lines behind that of the capacity is none of stale requests
 pub verdict_otherwise : (x : Verdict) (rest : List (List ℕ)) → NoneOfStale (other_lines x ++ rest)
-verdict_otherwise x rest = none_of_stale (other_lines x ++ rest) 102 refl (λ e. omega arith) (λ e. omega arith) (λ e. omega arith)
+verdict_otherwise x rest = none_of_stale (other_lines x ++ rest) 102 refl (λ e. omega arith) (λ e. omega arith) (λ e. omega arith) (λ e. omega arith)
 
 pub verdict_lacks : (x : Verdict) (dropped : ℕ) → SmallVerdict x dropped → AllByRecursion (Lacks 10) (all_of (verdict_lines x dropped))
 verdict_lacks x dropped small =

@@ -25,9 +25,9 @@ use Rattle.bound_report.specs.Verdicts.{verdict_lines}
 abbrev pub IsPrintable : ℕ → Type 0
 IsPrintable n = n < 2 ^ 128
 
--- the time after which objects expire, if they do, how many requests were late, and how many were stale, if any can be
+-- the two times for which objects stay fresh, if they have ends, how many requests were late, and how many were stale, if any can be
 abbrev pub ArePrintableCounts : StaleCounts → Type 0
-ArePrintableCounts counts = IfSome counts.idle IsPrintable × IsPrintable counts.late × IfSome counts.stale IsPrintable
+ArePrintableCounts counts = IfSome counts.idle IsPrintable × IfSome counts.ttl IsPrintable × IsPrintable counts.late × IfSome counts.stale IsPrintable
 
 -- how many requests count, if that is known, the warm-up, what is said of stale requests, and the other numbers of a report
 abbrev pub ArePrintable : Counting → List ℕ → Type 0

@@ -63,6 +63,7 @@ const WEBCACHE: Format = Format {
     layout: Layout::Webcache,
     fresh: Freshness {
         idle: None,
+        ttl: None,
         replace: false,
     },
 };

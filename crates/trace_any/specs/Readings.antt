@@ -12,7 +12,7 @@ use Rattle.bound_io.specs.declared.line_reader.LineFault.TheVariants as line
 use Rattle.cache_model.specs.declared.objects.Object.{Object}
 use Rattle.cache_rules.specs.Stored.{mark_if, with_mark}
 use Rattle.freshness.specs.declared.fresh.Freshness.{Freshness}
-use Rattle.freshness.specs.Stale.{can_end, forever}
+use Rattle.freshness.specs.Stale.{can_end, forever, stale_after}
 use Rattle.freshness.specs.Seen.{Seen, is_stale, nothing_seen, with_seen}
 use Rattle.trace_lines.specs.Lines.{without_cr, is_blank}
 use Rattle.trace_lines.specs.declared.line.Span.{Span}
@@ -167,7 +167,7 @@ at_time (Ok time) (Ok what) = Ok (record what { stamp = record what.stamp { time
 -- what a line or a record asks for, by the form of the trace: its time is looked at only if objects expire
 abbrev pub content_named : Format → List ℕ → Result LineContents LineKind
 content_named format text =
-    if is_some format.fresh.idle then at_time (time_of format.layout text) (untimed_content format.layout text) else untimed_content format.layout text
+    if is_some (stale_after format.fresh) then at_time (time_of format.layout text) (untimed_content format.layout text) else untimed_content format.layout text
 
 -- what is asked for is something
 abbrev pub some_content : Result LineContents LineKind → Result (Option LineContents) LineKind

@@ -174,7 +174,7 @@ fn content_named(format: Format, text: &[u8]) -> Result<LineContent<'_>, LineKin
     ensures range { IfOk result (λ content. IsSpan content.span) }
     ensures volume { IfOk result (λ content. IfSome content.volume (λ _. NamesVolumes format)) }
 {
-    if format.fresh.idle.is_none() {
+    if !format.fresh.is_timed() {
         untimed_content(format.layout, text)
     } else {
         Ok(timed_content(format.layout, text)?)

@@ -13,24 +13,33 @@ type Asked = (u8, u8, u8);
 
 const OBJECTS: [(u8, u8); 3] = [(1, 1), (1, 2), (2, 1)];
 
-const RULES: [Freshness; 4] = [
+const RULES: [Freshness; 5] = [
     Freshness {
         idle: Some(0),
+        ttl: None,
         replace: false,
     },
     Freshness {
         idle: Some(1),
+        ttl: None,
         replace: false,
     },
     Freshness {
         idle: None,
+        ttl: None,
         replace: true,
     },
     Freshness {
-        idle: Some(1),
+        idle: Some(2),
+        ttl: Some(1),
         replace: true,
     },
 ];
+
+// Whether more than a time passed, if one is given.
+fn is_past(limit: Option<u64>, passed: u8) -> bool {
+    limit.is_some_and(|limit| u64::from(passed) > limit)
+}
 
 // Whether a request after these is stale, found by going over all of them.
 fn is_stale(fresh: Freshness, before: &[Asked], asked: Asked) -> bool {
@@ -47,10 +56,8 @@ fn is_stale(fresh: Freshness, before: &[Asked], asked: Asked) -> bool {
         }
     }
     let passed = last.map(|last| asked.0.max(clock).saturating_sub(last));
-    let expired = match (passed, fresh.idle) {
-        (Some(passed), Some(idle)) => u64::from(passed) > idle,
-        _ => false,
-    };
+    let expired = passed.is_some_and(|passed| is_past(fresh.idle, passed)
+        || is_past(fresh.ttl, passed));
     expired || (fresh.replace && passed.is_some() && size != Some(asked.2))
 }
 
@@ -123,6 +130,7 @@ fn after(layout: Layout, idle: u64) -> Format {
         layout,
         fresh: Freshness {
             idle: Some(idle),
+            ttl: None,
             replace: false,
         },
     }

@@ -136,10 +136,10 @@ marks fresh trace times fills t within =
 module _ (terms : Terms) (trace : List Object) (times : List ℕ) (ttl idle : ℕ) (replace : Bool) (contents : List (List Object))
     (longer : ttl ≤ idle) where
   abbrev plain : List Bool
-  plain = stale_marks (record { idle = None; replace = replace }) trace times terms.fills
+  plain = stale_marks (record { idle = None; ttl = None; replace = replace }) trace times terms.fills
 
   abbrev aged : List Bool
-  aged = stale_marks (record { idle = Some idle; replace = replace }) trace times terms.fills
+  aged = stale_marks (record { idle = Some idle; ttl = None; replace = replace }) trace times terms.fills
 
   abbrev last : ℕ → Object → ℕ
   last n x = written_at plain trace times ttl contents n x
@@ -152,9 +152,9 @@ module _ (terms : Terms) (trace : List Object) (times : List ℕ) (ttl idle : �
       (λ (expired : has_expired (Some idle) trace times t ≡ true).
       absurd (expired_too plain trace times ttl contents idle t longer (omega arith) expired fresh))
       (λ (not_yet : has_expired (Some idle) trace times t ≡ false).
-      marks (record { idle = Some idle; replace = replace }) trace times terms.fills t within
+      marks (record { idle = Some idle; ttl = None; replace = replace }) trace times terms.fills t within
       ∙ ap (stale_by t) (not_yet ∙ sym (never_expired trace times t))
-      ∙ sym (marks (record { idle = None; replace = replace }) trace times terms.fills t within))
+      ∙ sym (marks (record { idle = None; ttl = None; replace = replace }) trace times terms.fills t within))
       (cases_Bool (has_expired (Some idle) trace times t))
     where
       stale_by : ℕ → Bool → Bool
@@ -263,5 +263,5 @@ idle_certificates_bound_ttl trace times fills h records ttl idle replace content
     omega (
       arith,
       mul-le-mul_left h.denominator (idle_bounds_ttl (terms_of h fills) trace times ttl idle replace contents longer),
-      (valid_bounds trace (stale_marks (record { idle = Some idle; replace = replace }) trace times fills) h records valid).no_policy_scores_more contents allowed,
+      (valid_bounds trace (stale_marks (record { idle = Some idle; ttl = None; replace = replace }) trace times fills) h records valid).no_policy_scores_more contents allowed,
     )

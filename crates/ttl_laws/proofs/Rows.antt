@@ -26,7 +26,7 @@ most fills trace times ttl = bound_with_ttl (hits fills) 1 1 trace times (free t
 -- the same of the intervals no longer than the time
 abbrev most_idle : List Bool → List Object → List ℕ → ℕ → ℕ
 most_idle fills trace times idle =
-    let marks = stale_marks (record { idle = Some idle; replace = false }) trace times fills in
+    let marks = stale_marks (record { idle = Some idle; ttl = None; replace = false }) trace times fills in
     bound_of (eligible_intervals (hits marks) trace) 1 2 1 (free trace)
 
 -- one object, every two seconds

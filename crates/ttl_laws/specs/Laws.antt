@@ -22,7 +22,7 @@ NoPolicyScoresMoreWithTtl =
 -- these terms, with the marks of what is stale by this idle time, or replaced
 abbrev pub marked_stale : Terms → Option ℕ → Bool → List Object → List ℕ → Terms
 marked_stale terms idle replace trace times =
-    record terms { fills = stale_marks (record { idle = idle; replace = replace }) trace times terms.fills }
+    record terms { fills = stale_marks (record { idle = idle; ttl = None; replace = replace }) trace times terms.fills }
 
 -- what is stale by an idle time of at least the ttl is no fresh hit: its marks change no score with the ttl
 abbrev pub IdleAddsNothing : Type 0
@@ -46,7 +46,7 @@ IdleCertificatesBoundTtl =
     (trace : List Object) (times : List ℕ) (fills : List Bool) (h : Header) (records : List Record)
     (ttl idle : ℕ) (replace : Bool) (contents : List (List Object))
     → ttl ≤ idle
-    → IsValid trace (stale_marks (record { idle = Some idle; replace = replace }) trace times fills) h records
+    → IsValid trace (stale_marks (record { idle = Some idle; ttl = None; replace = replace }) trace times fills) h records
     → IsAllowed h.capacity trace contents
     → h.denominator * score_with_ttl (marked_stale (terms_of h fills) None replace trace times) trace times ttl contents ≤ h.upper
 
