@@ -1,5 +1,5 @@
 -- What the operands give, and what is taken if they give nothing.
-use Rattle.std.specs.Prelude.{ℕ, ◌^◌, List, Bool, false, codes, unwrap_or, option_and_then}
+use Rattle.std.specs.Prelude.{ℕ, ◌^◌, List, Bool, false, codes, unwrap_or, option_and_then, None}
 use Rattle.std.specs.declared.option.Option.{Option}
 use Rattle.std.specs.Option.{option_map}
 use Rattle.cache_model.specs.declared.objects.Objective.{Objective}
