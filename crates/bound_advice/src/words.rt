@@ -11,7 +11,7 @@ use bound_words::{
     is_operand, kind_of, name_of, operands_of, value_given, value_of,
 };
 use std::alloc::{AllocError, Global};
-use trace_any::Format;
+use trace_any::{Format, Layout};
 
 // Names with commas between, and a word before the last.
 fn listed(alloc: Global, names: &[&str], before_last: &str) -> Result<String, AllocError> {
@@ -132,6 +132,17 @@ impl<'a> Words<'a> {
         format_given(self.operands())
     }
 
+    // Whether they say that the trace is of the form arc.
+    fn are_of_arc(&self) -> bool {
+        matches!(
+            self.form(),
+            Some(Format {
+                layout: Layout::Arc,
+                ..
+            })
+        )
+    }
+
     // The first operand that the command needs and that isn't given.
     fn first_missing(&self) -> Option<&'static str> {
         let command = self.command?;
@@ -220,7 +231,8 @@ fn missing(alloc: Global, words: Words<'_>, place: u64) -> Result<String, AllocE
 fn unsuited(alloc: Global, words: Words<'_>, word: &str) -> Result<String, AllocError> {
     let command = words.command_word();
     let names = words.operand_names();
-    match name_of(word) {
+    let name = name_of(word);
+    match name {
         "block" if names.contains(&"block") => {
             format!(in alloc; "{word}: a block goes with format=msr alone")
         }
@@ -229,8 +241,11 @@ fn unsuited(alloc: Global, words: Words<'_>, word: &str) -> Result<String, Alloc
                 "{word}: reads are told apart with format=webcache or format=msr alone"
             )
         }
-        "idle" if names.contains(&"idle") => {
+        "idle" | "ttl" if names.contains(&name) && words.are_of_arc() => {
             format!(in alloc; "{word}: a trace of format=arc has no times")
+        }
+        "ttl" if names.contains(&"ttl") => {
+            format!(in alloc; "{word}: it goes with mode=constant or mode=infinite alone")
         }
         "replace" if names.contains(&"replace") => format!(in alloc;
             "{word}: objects are replaced with format=webcache or format=oracle alone"

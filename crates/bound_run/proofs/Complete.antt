@@ -42,14 +42,15 @@ use Rattle.policy_stream.specs.Streams as streams
 use Rattle.trace_sweep.specs.Faults.{HasTooMany}
 use Rattle.bound_run.specs.Sweeps.{IsGoodPass, names_of}
 use Rattle.bound_run.specs.BoundsMade.{RefusesDenominator}
-use Rattle.bound_run.specs.Readings.{HasDenominator, IsCapacityCurved, IsGoodTrace, IsReplayed, trace_in}
-use Rattle.bound_run.specs.Run.{AnswersCurve, AnswersCurveOf, AnswersOf, AnswersSweep, Answers, AreGoodInputs, BoundsEnd, CheckEnds, CurveEnds, Completes, DemoEnds, Devices, NoneFails, RefineEnds, ReportsEnd, RunEnds, CommandEnds, UpgradeEnds, SweepEnds}
-use Rattle.bound_run.specs.Refusals.{RefusesLoading}
+use Rattle.bound_run.specs.Readings.{HasDenominator, IsCapacityCurved, IsGoodTrace, IsReady, IsReplayed, trace_in}
+use Rattle.bound_run.specs.Run.{AnswersCurve, AnswersCurveOf, AnswersOf, AnswersSweep, Answers, AreGoodInputs, CheckEnds, CurveEnds, Completes, DemoEnds, Devices, MakesEnd, NoneFails, RefineEnds, ReportsEnd, RunEnds, CommandEnds, UpgradeEnds, SweepEnds}
+use Rattle.bound_run.specs.Refusals.{RefusesBounds, RefusesLoading}
+use Rattle.ttl_runs.specs.Bounds.{IsReadyWithTtl}
 use Rattle.bound_run.specs.Upgrades.{IsGoodCertificate}
 use Rattle.bound_run.specs.Statuses.{ending_of}
 use Rattle.bound_run.proofs.Claimed.{judge_complete}
 use Rattle.bound_words.specs.declared.plans.Settings.{Settings}
-use Rattle.bound_words.specs.declared.plans.Settings.TheVariants.{Bounds, Check, Replay, Curve, CapacityCurve, Sweep, Judge, Demo, Upgrade, Refine}
+use Rattle.bound_words.specs.declared.plans.Settings.TheVariants.{Bounds, TtlBounds, Check, Replay, Curve, CapacityCurve, Sweep, Judge, Demo, Upgrade, Refine}
 use Rattle.bound_words.specs.Capacities.{capacities_in}
 use Rattle.bound_words.specs.Plans.{settings_of}
 
@@ -114,7 +115,7 @@ whole_is r requests dropped whole = ap (λ xs. record { objects = xs; fills = r.
 
 -- bounds
 
-module _ (format : Format) (asked : BoundSettings) (source report made : Device) (good : IsGoodTrace format source.before) (denominator : HasDenominator format asked source.before)
+module _ (AreReady : List ℕ → List ℕ → Type 0) (format : Format) (asked : BoundSettings) (source report made : Device) (good : IsGoodTrace format source.before) (denominator : HasDenominator format asked source.before)
     (source_works : ¬ (HasFailed source)) (report_works : ¬ (HasFailed report)) (made_works : ¬ (HasFailed made)) where
   not_refused : (before : Option (List ℕ)) (fault : FaultOfTrace) → IsGoodTrace format before → IfSome before (λ bytes. (reading format full_limits bytes).refused ≡ Some fault) → ⊥
   not_refused None fault known_trace why = known_trace
@@ -124,7 +125,7 @@ module _ (format : Format) (asked : BoundSettings) (source report made : Device)
   not_past None requests dropped has whole refused known_trace = known_trace
   not_past (Some bytes) requests dropped has whole refused known_trace = has (subst (RefusesDenominator asked) (sym (whole_is _ requests dropped whole)) refused)
 
-  bounds_complete : (status : Status) → BoundsEnd format asked source report made (ending_of status) → (status ≡ Done) ⊎ (status ≡ NoMemory)
+  bounds_complete : (status : Status) → MakesEnd AreReady (RefusesBounds format asked source) report made (ending_of status) → (status ≡ Done) ⊎ (status ≡ NoMemory)
   bounds_complete Done e = inl refl
   bounds_complete NoMemory e = inr refl
   bounds_complete (BadLine line kind) e = absurd (not_refused source.before (trace.BadLine line kind) good e.0.0)
@@ -381,7 +382,10 @@ module _ (source report made : Device) (good : IsGoodCertificate source.before) 
 -- a command whose inputs are good ends in its answer
 module _ (d : Devices) (status : Status) (works : NoneFails d) where
   command_complete : (settings : Settings) → CommandEnds settings d (ending_of status) → AreGoodInputs settings d → Answers settings d status
-  command_complete (Bounds format asked) e inputs = bounds_complete format asked d.trace d.report d.made inputs.0 inputs.1 works.trace works.report works.made status e.0
+  command_complete (Bounds format asked) e inputs =
+      bounds_complete (IsReady format asked d.trace) format asked d.trace d.report d.made inputs.0 inputs.1 works.trace works.report works.made status e.0
+  command_complete (TtlBounds format ttl asked) e inputs =
+      bounds_complete (IsReadyWithTtl format ttl asked d.trace) format asked d.trace d.report d.made inputs.0 inputs.1 works.trace works.report works.made status e.0
   command_complete (Replay format r) e inputs = report_complete format (IsReplayed format r d.trace) d.trace d.report inputs works.trace works.report status e.0
   command_complete (Curve format) e inputs = curve_complete format d.trace d.report inputs works.trace works.report status e.0
   command_complete (CapacityCurve format capacities asked) e inputs =

@@ -13,7 +13,7 @@ use Rattle.bound_report.specs.Curves.{adds_hits, curve_lines, slots_line, slots_
 use Rattle.bound_report.specs.Rendering.{rendered}
 use Rattle.trace_any.specs.declared.format.Format.{Format}
 use Rattle.trace_any.specs.Readers.{Notes}
-use Rattle.bound_run.specs.Countings.{counting_from}
+use Rattle.run_counts.specs.Countings.{counting_from}
 use Rattle.bound_run.specs.Curves.{IsCurveText, curve_facts}
 
 -- two functions that agree give the same list

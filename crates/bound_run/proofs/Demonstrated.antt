@@ -26,7 +26,7 @@ use Rattle.bound_run.specs.Readings.{IsCertified}
 use Rattle.bound_run.specs.BoundsMade.{AreTexts, IsMade}
 use Rattle.bound_run.specs.Refusals.{RefusesCheck}
 use Rattle.freshness.specs.Seen.{nothing_noted}
-use Rattle.bound_run.specs.Countings.{counting_of}
+use Rattle.run_counts.specs.Countings.{counting_of}
 use Rattle.bound_run.specs.Reports.{bounds_report}
 
 -- a count of faults that stays at 0 has no new one

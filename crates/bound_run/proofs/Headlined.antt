@@ -24,7 +24,7 @@ use Rattle.bound_run.specs.Statuses.{done, ending_of}
 use Rattle.judge_laws.proofs.Possible.{possible_is_allowed}
 use Rattle.bound_run.proofs.Claimed.{claims_bounded}
 use Rattle.bound_words.specs.declared.plans.Settings.{Settings}
-use Rattle.bound_words.specs.declared.plans.Settings.TheVariants.{Bounds, Check, Replay, Curve, CapacityCurve, Sweep, Judge, Demo, Upgrade, Refine}
+use Rattle.bound_words.specs.declared.plans.Settings.TheVariants.{Bounds, TtlBounds, Check, Replay, Curve, CapacityCurve, Sweep, Judge, Demo, Upgrade, Refine}
 use Rattle.bound_words.specs.Plans.{settings_of}
 
 -- a valid certificate has true bounds
@@ -77,6 +77,35 @@ shown (Bounds format asked) d ((cert, text, ready, certified, printed), source, 
             (made.equal_sizes size unwindowed same).equal ∙ ap (λ n. ready.texts.header.denominator * n) (sym made.valid.lower),
           );
         };
+      },
+    )
+shown (TtlBounds format ttl asked) d ((cert, text, ready, certified, printed), source, untouched) =
+    let texts = ready.texts in
+    let made = texts.made in (
+      ready.requests,
+      ready.notes,
+      ready.loaded,
+      record {
+        times = ready.times;
+        header = texts.header;
+        records = texts.records;
+        price = texts.price;
+        intervals = texts.intervals;
+        written = texts.written;
+        times_are = ready.times_are;
+        each = ready.each;
+        printed = subst (λ t. Appends d.report.before d.report.after t) texts.report_is printed;
+        certified = subst (λ t. Appends d.made.before d.made.after t) texts.cert_is certified;
+        terms = made.terms;
+        version = made.version;
+        bounds = record {
+          certificate = made.valid.certificate;
+          requests = made.valid.requests;
+          upper = made.bounds;
+          schedule = made.valid.keeps;
+          lower = sym made.valid.lower;
+        };
+        numbers = record { priced = made.prices; intervals_are = made.intervals_are; written_are = made.written_are };
       },
     )
 shown (Check format) d ((text, said, printed), trace, cert, untouched) = (

@@ -24,7 +24,7 @@ use Rattle.cert_checker.specs.Keeping.{Checked, HasKept}
 use Rattle.bound_report.specs.declared.rendering.Counting.{Counting}
 use Rattle.trace_any.specs.Loads.{IsLoaded}
 use Rattle.bound_run.specs.Readings.{IsAccepted, IsVerdictText}
-use Rattle.bound_run.specs.Countings.{counting_of}
+use Rattle.run_counts.specs.Countings.{counting_of}
 use Rattle.bound_run.specs.Reports.{verdict_report}
 use Rattle.bound_run.specs.Refusals.{RefusesCheck}
 use Rattle.bound_run.specs.Refined.{IsKept}

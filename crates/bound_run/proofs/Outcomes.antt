@@ -15,6 +15,10 @@ use Rattle.bound_words.specs.declared.plans.DrawSettings.{DrawSettings}
 use Rattle.bound_run.specs.declared.bounds.BoundsFault.{BoundsFault}
 use Rattle.bound_run.specs.declared.bounds.BoundsFault.TheVariants as bounds
 use Rattle.bound_run.specs.BoundsFaults.{FailsBounds}
+use Rattle.ttl_bounds.specs.declared.faults.TtlBoundsFault.{TtlBoundsFault}
+use Rattle.ttl_bounds.specs.declared.faults.TtlBoundsFault.TheVariants as ttl_bounds
+use Rattle.ttl_bounds.specs.Faults.{FailsTtlBounds}
+use Rattle.ttl_runs.specs.Bounds.{asked_of}
 use Rattle.stack_curve.specs.declared.pass.CurveFault.{CurveFault}
 use Rattle.stack_curve.specs.declared.pass.CurveFault.TheVariants as curve
 use Rattle.stack_curve.specs.Curves.{IsCause}
@@ -23,7 +27,7 @@ use Rattle.bound_report.specs.declared.refusal.LimitName.TheVariants.{Denominato
 use Rattle.bound_report.specs.declared.refusal.Refusal.{Refusal}
 use Rattle.bound_report.specs.declared.refusal.Refusal.TheVariants as refusal
 use Rattle.bound_report.specs.Refusals.{refusal_line}
-use Rattle.bound_run.specs.Statuses.{Ending, done, refused, unreported, ending_of, refusal_of, refusal_of_bounds, refusal_of_curve, status_of}
+use Rattle.bound_run.specs.Statuses.{Ending, done, refused, unreported, ending_of, refusal_of, refusal_of_bounds, refusal_of_curve, refusal_of_ttl_bounds, status_of}
 use Rattle.bound_run.specs.Demos.{trace_drawn}
 use Rattle.bound_run.specs.Refusals.{RefusesDemo, RefusesBounds, RefusesCurve, RefusesLoading}
 use Rattle.trace_any.specs.Loads.{IsLoaded, IsRefused}
@@ -57,6 +61,17 @@ pub refused_of : (format : Format) (asked : BoundSettings) (d : Device) (request
     → IsLoaded format d requests notes → FailsBounds asked requests fault → RefusesBounds format asked d (refusal_of_bounds fault)
 refused_of format asked d requests notes bounds.Denominator loaded why = record { requests = requests; notes = notes; loaded = loaded; refused = why }
 refused_of format asked d requests notes bounds.NoMemory loaded why = tt
+
+-- the same of bounds with a time to live
+pub refused_with_ttl : (format : Format) (asked : BoundSettings) (d : Device) (requests : Trail) (notes : Notes) (fault : TtlBoundsFault)
+    → IsLoaded format d requests notes → FailsTtlBounds (asked_of asked) requests fault → RefusesBounds format asked d (refusal_of_ttl_bounds fault)
+refused_with_ttl format asked d requests notes ttl_bounds.Denominator loaded why = record {
+  requests = requests;
+  notes = notes;
+  loaded = loaded;
+  refused = record { exact = why.exact; unit = why.unit; unit_is = why.unit_is; past = why.past };
+}
+refused_with_ttl format asked d requests notes ttl_bounds.NoMemory loaded why = tt
 
 -- what refuses the trace refuses its bounds
 pub loading_refuses : (format : Format) (asked : BoundSettings) (d : Device) (why : Refusal) → RefusesLoading format d why → RefusesBounds format asked d why

@@ -24,7 +24,7 @@ use Rattle.price_refine.specs.Blocks.{AreSettled}
 use Rattle.bound_report.specs.declared.refusal.Refusal.TheVariants as refusal
 use Rattle.bound_run.specs.Refusals.{RefusesCheck}
 use Rattle.bound_run.specs.Refined.{AreRefinedTexts, IsRefinable, IsRefined, IsRefinement, RefinesPrices, verdict_on, with_price, with_prices, with_upper}
-use Rattle.bound_run.specs.Countings.{counting_of}
+use Rattle.run_counts.specs.Countings.{counting_of}
 use Rattle.bound_run.specs.Reports.{refined_report}
 use Rattle.bound_run.proofs.HeaderRanges.{still_in_range}
 use Rattle.bound_run.proofs.MadeOf.{some_units}

@@ -27,7 +27,7 @@ use Rattle.window_bounds.specs.Solutions.{AreSolutions, prices_in, value_of_wind
 use Rattle.bound_words.specs.declared.plans.BoundSettings.{BoundSettings}
 use Rattle.trace_any.specs.declared.format.Format.{Format}
 use Rattle.trace_any.specs.Readers.{Notes}
-use Rattle.bound_run.specs.Countings.{counting_of}
+use Rattle.run_counts.specs.Countings.{counting_of}
 use Rattle.bound_run.specs.Reports.{bounds_report}
 
 -- how many steps a window has

@@ -10,7 +10,7 @@ use Rattle.bound_report.specs.CapacityCurves.{capacity_curve_lines}
 use Rattle.bound_report.specs.Rendering.{rendered}
 use Rattle.trace_any.specs.declared.format.Format.{Format}
 use Rattle.trace_any.specs.Readers.{Notes}
-use Rattle.bound_run.specs.Countings.{counting_from}
+use Rattle.run_counts.specs.Countings.{counting_from}
 
 -- what the report of a curve over capacities states
 abbrev pub capacity_facts : CurveTerms → Requests → ℕ → CapacityCurveFacts

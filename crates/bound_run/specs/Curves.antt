@@ -12,7 +12,7 @@ use Rattle.bound_report.specs.Curves.{curve_lines}
 use Rattle.bound_report.specs.Rendering.{rendered}
 use Rattle.trace_any.specs.declared.format.Format.{Format}
 use Rattle.trace_any.specs.Readers.{Notes}
-use Rattle.bound_run.specs.Countings.{counting_from}
+use Rattle.run_counts.specs.Countings.{counting_from}
 
 -- the counts of the trace that a curve is of
 abbrev pub curve_facts : Requests → ℕ → CurveFacts

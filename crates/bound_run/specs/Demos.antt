@@ -13,7 +13,7 @@ use Rattle.bound_words.specs.declared.plans.DrawSettings.{DrawSettings}
 use Rattle.freshness.specs.Seen.{nothing_noted}
 use Rattle.trace_any.specs.Readings.{webcache_form}
 use Rattle.bound_run.specs.BoundsMade.{IsMade}
-use Rattle.bound_run.specs.Countings.{counting_of}
+use Rattle.run_counts.specs.Countings.{counting_of}
 use Rattle.bound_run.specs.Reports.{bounds_report}
 use Rattle.bound_run.specs.Replays.{IsReplay}
 

@@ -19,7 +19,7 @@ use Rattle.trace_any.specs.declared.format.Format.{Format}
 use Rattle.freshness.specs.Seen.{nothing_noted}
 use Rattle.trace_any.specs.Readers.{Notes}
 use Rattle.trace_any.specs.Readings.{webcache_form}
-use Rattle.bound_run.specs.Countings.{counting_of}
+use Rattle.run_counts.specs.Countings.{counting_of}
 use Rattle.bound_words.specs.declared.plans.BoundSettings.{BoundSettings}
 use Rattle.bound_words.specs.declared.plans.DrawSettings.{DrawSettings}
 use Rattle.bound_words.specs.declared.plans.ReplaySettings.{ReplaySettings}
@@ -49,9 +49,10 @@ use Rattle.bound_run.specs.Reports.{bounds_report, refined_report, verdict_repor
 use Rattle.policy_model.specs.declared.names.PolicyName.{PolicyName}
 use Rattle.bound_run.specs.Sweeps.{IsSweepText, names_of}
 use Rattle.bound_run.specs.Upgrades.{IsUpgraded}
+use Rattle.ttl_runs.specs.Shown.{ShowsBoundsWithTtl}
 use Rattle.bound_run.specs.Run.{Devices}
 use Rattle.bound_words.specs.declared.plans.Settings.{Settings}
-use Rattle.bound_words.specs.declared.plans.Settings.TheVariants.{Bounds, Check, Replay, Curve, CapacityCurve, Sweep, Judge, Demo, Upgrade, Refine}
+use Rattle.bound_words.specs.declared.plans.Settings.TheVariants.{Bounds, TtlBounds, Check, Replay, Curve, CapacityCurve, Sweep, Judge, Demo, Upgrade, Refine}
 use Rattle.bound_words.specs.Capacities.{capacities_in}
 use Rattle.bound_words.specs.Plans.{settings_of}
 
@@ -180,6 +181,7 @@ pub record ShowsRefinement (format : Format) (width : ℕ) (trace : Requests) (n
 
 -- what the other commands show
 abbrev pub ShowsElse : Settings → Devices → Type 0
+ShowsElse (TtlBounds format ttl asked) d = (trace : Requests) × (notes : Notes) × IsLoaded format d.trace trace notes × ShowsBoundsWithTtl format ttl asked trace notes d.trace d.report d.made
 ShowsElse (Replay format r) d = (trace : Requests) × (notes : Notes) × IsLoaded format d.trace trace notes × ShowsReplay format r trace notes d.report
 ShowsElse (Curve format) d = (trace : Requests) × (notes : Notes) × IsLoaded format d.trace trace notes × ShowsCurve format trace notes d.report
 ShowsElse (CapacityCurve format capacities asked) d =

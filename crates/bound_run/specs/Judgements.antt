@@ -20,7 +20,7 @@ use Rattle.bound_report.specs.declared.judged.JudgedFacts.{JudgedFacts}
 use Rattle.bound_report.specs.Judged.{judged_lines}
 use Rattle.bound_report.specs.Rendering.{rendered}
 use Rattle.bound_words.specs.declared.plans.JudgeSettings.{JudgeSettings}
-use Rattle.bound_run.specs.Countings.{counting_from}
+use Rattle.run_counts.specs.Countings.{counting_from}
 
 -- what flags claim by an objective, of the requests that count from the warm-up on
 abbrev pub claimed_by : Objective → JudgeSettings → Requests → List Bool → ℕ

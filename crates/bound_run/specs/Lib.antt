@@ -1,6 +1,5 @@
 pub mod Statuses
 pub mod Prices
-pub mod Countings
 pub mod Reports
 pub mod BoundsMade
 pub mod Relaxations

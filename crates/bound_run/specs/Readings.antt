@@ -23,7 +23,7 @@ use Rattle.bound_run.specs.CapacityCurves.{IsCapacityCurveText}
 use Rattle.bound_run.specs.Curves.{IsCurveText}
 use Rattle.bound_run.specs.BoundsMade.{AreTexts, RefusesDenominator}
 use Rattle.bound_run.specs.Replays.{IsReplayText}
-use Rattle.bound_run.specs.Countings.{counting_of}
+use Rattle.run_counts.specs.Countings.{counting_of}
 use Rattle.bound_run.specs.Reports.{verdict_report}
 
 -- the requests of a reading, with their marks

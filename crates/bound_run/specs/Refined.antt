@@ -16,7 +16,7 @@ use Rattle.price_refine.specs.Refinements.{Refinement}
 use Rattle.trace_any.specs.declared.format.Format.{Format}
 use Rattle.trace_any.specs.Readers.{Notes}
 use Rattle.trace_any.specs.Loads.{IsLoaded}
-use Rattle.bound_run.specs.Countings.{counting_of}
+use Rattle.run_counts.specs.Countings.{counting_of}
 use Rattle.bound_run.specs.Reports.{refined_report}
 
 -- the header with another upper bound

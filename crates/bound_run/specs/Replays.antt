@@ -33,7 +33,7 @@ use Rattle.bound_words.specs.declared.plans.ReplaySettings.{ReplaySettings}
 use Rattle.bound_run.specs.declared.replays.Leaving.{Leaving}
 use Rattle.bound_run.specs.declared.replays.Answered.{Answered}
 use Rattle.bound_run.specs.declared.replays.Answered.TheVariants.{Counts, Flags}
-use Rattle.bound_run.specs.Countings.{counting_from}
+use Rattle.run_counts.specs.Countings.{counting_from}
 
 -- what a replay earns by an objective
 abbrev pub earned_by : Objective → ℕ → ℕ → ℕ

@@ -32,9 +32,10 @@ use Rattle.policy_model.specs.declared.names.PolicyName.{PolicyName}
 use Rattle.policy_stream.specs.Streams as streams
 use Rattle.bound_run.specs.Sweeps.{IsGoodPass, IsSweepText, RefusesSweep, names_of}
 use Rattle.bound_run.specs.Upgrades.{IsGoodCertificate, IsUpgraded}
+use Rattle.ttl_runs.specs.Bounds.{IsReadyWithTtl}
 use Rattle.bound_run.specs.Statuses.{Ending, done, refused, unreported, ending_of}
 use Rattle.bound_words.specs.declared.plans.Settings.{Settings}
-use Rattle.bound_words.specs.declared.plans.Settings.TheVariants.{Bounds, Check, Replay, Curve, CapacityCurve, Sweep, Judge, Demo, Upgrade, Refine}
+use Rattle.bound_words.specs.declared.plans.Settings.TheVariants.{Bounds, TtlBounds, Check, Replay, Curve, CapacityCurve, Sweep, Judge, Demo, Upgrade, Refine}
 use Rattle.bound_words.specs.Capacities.{capacities_in}
 use Rattle.bound_words.specs.Plans.{settings_of}
 
@@ -60,6 +61,10 @@ MakesEnd AreReady Refuses report made (refused r) = Refuses r × Gets report (re
 -- how bounds end, and what the sinks got then
 abbrev pub BoundsEnd : Format → BoundSettings → Device → Device → Device → Ending → Type 0
 BoundsEnd format asked source report made ending = MakesEnd (IsReady format asked source) (RefusesBounds format asked source) report made ending
+
+-- how bounds with a time to live end, and what the sinks got then
+abbrev pub TtlBoundsEnd : Format → ℕ → BoundSettings → Device → Device → Device → Ending → Type 0
+TtlBoundsEnd format ttl asked source report made ending = MakesEnd (IsReadyWithTtl format ttl asked source) (RefusesBounds format asked source) report made ending
 
 -- how an upgrade ends, and what the sinks got then
 abbrev pub UpgradeEnds : Device → Device → Device → Ending → Type 0
@@ -112,6 +117,7 @@ IsReadFrom source = LosesPrefix source.before source.after
 -- how a command ends: what it doesn't need is left alone, and what it reads loses no more than a prefix
 abbrev pub CommandEnds : Settings → Devices → Ending → Type 0
 CommandEnds (Bounds format asked) d ending = BoundsEnd format asked d.trace d.report d.made ending × IsReadFrom d.trace × IsUntouched d.beside
+CommandEnds (TtlBounds format ttl asked) d ending = TtlBoundsEnd format ttl asked d.trace d.report d.made ending × IsReadFrom d.trace × IsUntouched d.beside
 CommandEnds (Check format) d ending = CheckEnds format d.trace d.beside d.report ending × IsReadFrom d.trace × IsReadFrom d.beside × IsUntouched d.made
 CommandEnds (Replay format r) d ending = ReplayEnds format r d.trace d.report ending × IsReadFrom d.trace × IsUntouched d.beside × IsUntouched d.made
 CommandEnds (Curve format) d ending = CurveEnds format d.trace d.report ending × IsReadFrom d.trace × IsUntouched d.beside × IsUntouched d.made
@@ -148,6 +154,7 @@ pub record IsCalm (d : Devices) : Type 0 where
 -- the inputs are known, and nothing of them is refused before the certificate is looked at
 abbrev pub AreGoodInputs : Settings → Devices → Type 0
 AreGoodInputs (Bounds format asked) d = IsGoodTrace format d.trace.before × HasDenominator format asked d.trace.before
+AreGoodInputs (TtlBounds format ttl asked) d = IsGoodTrace format d.trace.before × HasDenominator format asked d.trace.before
 AreGoodInputs (Check format) d = IsGoodTrace format d.trace.before × IsSome d.beside.before
 AreGoodInputs (Replay format r) d = IsGoodTrace format d.trace.before
 AreGoodInputs (Curve format) d = IsGoodTrace format d.trace.before
@@ -198,6 +205,7 @@ AnswersSweep status = ⊥
 -- what is answered of good inputs, unless memory ran out
 abbrev pub Answers : Settings → Devices → Status → Type 0
 Answers (Bounds format asked) d status = (status ≡ Done) ⊎ (status ≡ NoMemory)
+Answers (TtlBounds format ttl asked) d status = (status ≡ Done) ⊎ (status ≡ NoMemory)
 Answers (Check format) d status = AnswersOf format d.trace.before d.beside.before status
 Answers (Replay format r) d status = (status ≡ Done) ⊎ (status ≡ NoMemory)
 Answers (Curve format) d status = AnswersCurveOf format d.trace.before status

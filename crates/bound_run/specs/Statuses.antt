@@ -15,6 +15,8 @@ use Rattle.hit_flags.specs.declared.fault.FlagFault.{FlagFault}
 use Rattle.hit_flags.specs.declared.fault.FlagFault.TheVariants as flag
 use Rattle.bound_run.specs.declared.bounds.BoundsFault.{BoundsFault}
 use Rattle.bound_run.specs.declared.bounds.BoundsFault.TheVariants as bounds
+use Rattle.ttl_bounds.specs.declared.faults.TtlBoundsFault.{TtlBoundsFault}
+use Rattle.ttl_bounds.specs.declared.faults.TtlBoundsFault.TheVariants as ttl_bounds
 use Rattle.bound_run.specs.declared.status.Status.{Status}
 use Rattle.bound_run.specs.declared.status.Status.TheVariants.{Done, Invalid, Words, BadLine, Limit, TraceFault, CertFault, ReportFault, MadeFault, NoMemory, PolicyMemory, Unequal, NotFlag, FlagCount, Impossible}
 
@@ -109,6 +111,11 @@ refusal_of_check check.NoMemory = refusal.NoMemory
 abbrev pub refusal_of_bounds : BoundsFault → Refusal
 refusal_of_bounds bounds.Denominator = refusal.Limit Denominator
 refusal_of_bounds bounds.NoMemory = refusal.NoMemory
+
+-- the refusal that a fault of bounds with a time to live leads to
+abbrev pub refusal_of_ttl_bounds : TtlBoundsFault → Refusal
+refusal_of_ttl_bounds ttl_bounds.Denominator = refusal.Limit Denominator
+refusal_of_ttl_bounds ttl_bounds.NoMemory = refusal.NoMemory
 
 -- the refusal that a fault of a curve leads to
 abbrev pub refusal_of_curve : CurveFault → Refusal

@@ -30,7 +30,7 @@ use Rattle.bound_report.specs.declared.refusal.Refusal.{Refusal}
 use Rattle.bound_report.specs.declared.refusal.Refusal.TheVariants as refusal
 use Rattle.bound_words.specs.Policies.{policies_in}
 use Rattle.bound_words.specs.declared.plans.SweepSettings.{SweepSettings}
-use Rattle.bound_run.specs.Countings.{counting_from}
+use Rattle.run_counts.specs.Countings.{counting_from}
 
 -- what the report of a sweep states
 abbrev pub sweep_facts : SweepSettings → List ℕ → List PolicyName → Requests → ℕ → SweepFacts

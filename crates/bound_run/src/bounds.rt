@@ -12,7 +12,6 @@ ghost use Rattle.bound_run.specs.BoundsMade.{AreTexts, IsMade, is_unwindowed, re
 ghost use Rattle.bound_run.specs.Records.{HasEach, records_in};
 ghost use Rattle.bound_run.specs.Reports.{written_by};
 
-use crate::counting::counting_of;
 use crate::relaxed::{Relaxed, relax, width_of};
 use crate::writing::Texts;
 use bound_base::NoMemory;
@@ -24,6 +23,7 @@ use cache_rules::{Trace, score_of_fitting, written_bytes};
 use cert_format::{Records, cert_of};
 use interval_maker::Intervals;
 use relaxation::{Denominator, Scale, denominator_for, unit_of};
+use run_counts::counting_of;
 use schedule_round::Keeps;
 use std::alloc::Global;
 use trace_any::{Format, TraceNotes};

@@ -3,17 +3,17 @@ ghost use Rattle.std.specs.Prelude.{◌≡◌, ◌<◌, IfOk, IfErr, OnOk};
 ghost use Rattle.bound_io.specs.Devices.{seen};
 ghost use Rattle.bound_io.specs.Reading.{LosesPrefix};
 ghost use Rattle.trace_any.specs.Readings.{IsFormat};
-ghost use Rattle.bound_run.specs.Countings.{counting_found};
+ghost use Rattle.run_counts.specs.Countings.{counting_found};
 ghost use Rattle.bound_run.specs.Readings.{IsVerdictText};
 ghost use Rattle.bound_run.specs.Refusals.{RefusesCheck};
 ghost use Rattle.bound_run.specs.Reports.{verdict_report};
 
-use crate::counting::counting_found;
 use crate::status::refusal_of_check;
 use bound_base::NoMemory;
 use bound_io::Source;
 use bound_report::{CheckFacts, Refusal, render};
 use cert_checker::{Passed, check_counted};
+use run_counts::counting_found;
 use std::alloc::Global;
 use trace_any::Format;
 

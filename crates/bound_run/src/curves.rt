@@ -6,11 +6,11 @@ ghost use Rattle.capacity_curve.specs.Points.{IsInRange};
 ghost use Rattle.bound_run.specs.CapacityCurves.{IsCapacityCurveText};
 ghost use Rattle.bound_run.specs.Curves.{IsCurveText};
 
-use crate::counting::counting_from;
 use bound_base::NoMemory;
 use bound_report::{CapacityCurveFacts, CapacityCurveReport, CurveFacts, CurveReport, render};
 use cache_rules::Trace;
 use capacity_curve::{CurveTerms, points_at};
+use run_counts::counting_from;
 use stack_curve::{CurveFault, curve};
 use std::alloc::Global;
 use trace_any::{Format, TraceNotes};

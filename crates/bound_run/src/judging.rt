@@ -11,7 +11,6 @@ ghost use Rattle.trace_any.specs.Readings.{IsFormat};
 ghost use Rattle.bound_run.specs.Judgements.{IsJudged, claimed_by, judged_report, written_for};
 ghost use Rattle.bound_run.specs.Refusals.{RefusesJudge};
 
-use crate::counting::{counting_from, if_counted};
 use crate::status::refusal_of_flags;
 use bit_list::BitList;
 use bound_base::NoMemory;
@@ -21,6 +20,7 @@ use bound_words::JudgeSettings;
 use cache_rules::Trace;
 use hit_flags::{Claims, read_claims};
 use hit_judge::{Claimed, Impossible, judge};
+use run_counts::{counting_from, if_counted};
 use std::alloc::Global;
 use trace_any::{Format, TraceNotes};
 

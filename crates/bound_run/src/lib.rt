@@ -5,7 +5,6 @@
 
 mod bounds;
 mod checking;
-mod counting;
 mod curves;
 mod demos;
 mod judging;
@@ -16,6 +15,7 @@ mod relaxed;
 mod replays;
 mod status;
 mod sweeps;
+mod timed;
 mod top;
 mod upgrades;
 mod writing;

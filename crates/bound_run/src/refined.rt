@@ -8,7 +8,6 @@ ghost use Rattle.bound_run.specs.Refusals.{RefusesCheck};
 ghost use Rattle.bound_run.specs.Refined.{AreRefinedTexts, IsKept, IsRefined, RefinesPrices, verdict_on, with_price, with_upper};
 
 use crate::bounds::intervals_of;
-use crate::counting::counting_of;
 use crate::status::refusal_of_check;
 use crate::writing::Texts;
 use bound_base::NoMemory;
@@ -18,6 +17,7 @@ use cache_model::{Header, Record, Terms};
 use cert_checker::{Kept, Verdict, keep_all};
 use cert_format::{Records, cert_of};
 use price_refine::{Refined, refine};
+use run_counts::counting_of;
 use std::alloc::Global;
 use trace_any::{Format, TraceNotes};
 

@@ -9,7 +9,6 @@ ghost use Rattle.freshness.specs.Seen.{noted_of};
 ghost use Rattle.replay_fresh.specs.FreshRuns.{IsFreshRunOf, IsFreshlyPlayed, OnlyFill};
 ghost use Rattle.bound_run.specs.Replays.{AreCountsOf, AreHitsOf, BeginsAs, IsAnswered, IsCountsText, IsFreshReplay, IsReplay, IsReplayText, IsWithinBounds, leaves, leaving_of, stale_flags};
 
-use crate::counting::{counting_from, if_counted};
 use bit_list::BitList;
 use bound_base::NoMemory;
 use bound_report::{ReplayFacts, render};
@@ -25,6 +24,7 @@ use replay_queues::{Clock, S3Fifo, Sieve};
 use replay_rank::{Belady, Gdsf, Gdsf98, Lfu, Lfuda};
 use replay_recency::{Fifo, Lru};
 use replay_tinylfu::WTinyLfu;
+use run_counts::{counting_from, if_counted};
 use std::alloc::Global;
 use trace_any::{Format, TraceNotes};
 

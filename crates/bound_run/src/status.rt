@@ -1,6 +1,6 @@
 //! How a run ends.
 ghost use Rattle.std.specs.Prelude.{◌≡◌, ◌⊎◌, MatchOption};
-ghost use Rattle.bound_run.specs.Statuses.{code_of, refusal_of, refusal_of_check, refusal_of_curve, refusal_of_flags, status_of};
+ghost use Rattle.bound_run.specs.Statuses.{code_of, refusal_of, refusal_of_check, refusal_of_curve, refusal_of_flags, refusal_of_ttl_bounds, status_of};
 
 use crate::bounds::BoundsFault;
 use bound_report::{Impossible, InvalidKind, LimitName, Refusal};
@@ -11,6 +11,7 @@ use policy_model::PolicyName;
 use stack_curve::CurveFault;
 use trace_any::TraceFault;
 use trace_lines::LineKind;
+use ttl_bounds::TtlBoundsFault;
 
 /// How a run ends, each with the exit status of the program.
 #[derive(Clone, Copy, Debug, PartialEq, Eq)]
@@ -143,6 +144,16 @@ pub(crate) fn refusal_of(fault: TraceFault) -> Refusal
         TraceFault::InputTooLong => Refusal::Limit(LimitName::TraceBytes),
         TraceFault::TooManyRequests => Refusal::Limit(LimitName::Requests),
         TraceFault::NoMemory => Refusal::NoMemory,
+    }
+}
+
+/// The refusal that a fault of bounds with a time to live leads to.
+pub(crate) fn refusal_of_ttl_bounds(fault: TtlBoundsFault) -> Refusal
+    ensures { result ≡ refusal_of_ttl_bounds fault }
+{
+    match fault {
+        TtlBoundsFault::Denominator => Refusal::Limit(LimitName::Denominator),
+        TtlBoundsFault::NoMemory => Refusal::NoMemory,
     }
 }
 

@@ -1,11 +1,11 @@
 //! All that the program does, over any sources and sinks.
-ghost use Rattle.std.specs.Prelude.{◌≡◌, ◌≤◌, ◌^◌, map, string_bytes, Result, Ok, IfOk};
+ghost use Rattle.std.specs.Prelude.{◌≡◌, ◌≤◌, ◌^◌, map, string_bytes, Result, Ok, Some, IfOk};
 ghost use Rattle.bound_io.specs.Devices.{seen};
 ghost use Rattle.bound_io.specs.Reading.{LosesPrefix};
 ghost use Rattle.trace_any.specs.Readings.{IsFormat};
 ghost use Rattle.bound_run.specs.Headline.{Headline};
 ghost use Rattle.bound_run.specs.Run.{BoundsEnd, CapacityCurveEnds, CheckEnds, Completes, CurveEnds, DemoEnds};
-ghost use Rattle.bound_run.specs.Run.{IsCalm, JudgeEnds, RefineEnds, ReplayEnds, RunEnds, SweepEnds, UpgradeEnds, devices};
+ghost use Rattle.bound_run.specs.Run.{IsCalm, JudgeEnds, RefineEnds, ReplayEnds, RunEnds, SweepEnds, TtlBoundsEnd, UpgradeEnds, devices};
 ghost use Rattle.bound_run.specs.Statuses.{ending_of};
 ghost use Rattle.bound_run.specs.Sweeps.{names_of};
 ghost use Rattle.bound_words.specs.Capacities.{capacities_in};
@@ -19,6 +19,7 @@ use crate::loading::{capacity_curve_all, curve_all, prepare, replay_all};
 use crate::refined::refine_all;
 use crate::status::Status;
 use crate::sweeps::sweep_all;
+use crate::timed::prepare_with_ttl;
 use crate::upgrades::upgrade_all;
 use crate::writing::{refuse, write_out, write_report};
 use bound_io::{Sink, Source};
@@ -49,6 +50,31 @@ fn run_bounds<T: Source, R: Sink, K: Sink>(
     ensures none_failed { result ≡ Status.Done → (T.faults trace.new ≡ T.faults trace.old) × (R.faults report.new ≡ R.faults report.old) × (K.faults made.new ≡ K.faults made.old) }
 {
     match prepare(alloc, format, asked, trace) {
+        Ok(texts) => write_out(report, made, &texts),
+        Err(refusal) => refuse(report, refusal),
+    }
+}
+
+// Reads the trace, and writes its bounds with the time to live of the form, and their certificate.
+fn run_ttl_bounds<T: Source, R: Sink, K: Sink>(
+    alloc: Global,
+    format: Format,
+    ttl: u64,
+    asked: &BoundSettings,
+    trace: &mut T,
+    report: &mut R,
+    made: &mut K,
+) -> Status
+    requires format { IsFormat format }
+    requires ttl { format.fresh.ttl ≡ Some ttl }
+    ensures ends { TtlBoundsEnd format ttl asked.now
+        (seen T.left T.faults trace.old trace.new)
+        (seen R.written R.faults report.old report.new)
+        (seen K.written K.faults made.old made.new) (ending_of result) }
+    ensures source { LosesPrefix (T.left trace.old) (T.left trace.new) }
+    ensures none_failed { result ≡ Status.Done → (T.faults trace.new ≡ T.faults trace.old) × (R.faults report.new ≡ R.faults report.old) × (K.faults made.new ≡ K.faults made.old) }
+{
+    match prepare_with_ttl(alloc, format, ttl, asked, trace) {
         Ok(texts) => write_out(report, made, &texts),
         Err(refusal) => refuse(report, refusal),
     }
@@ -274,6 +300,9 @@ fn run_plan<T: Source, Q: Source, R: Sink, K: Sink>(
     };
     match settings_of(plan) {
         Settings::Bounds(format, asked) => run_bounds(alloc, format, &asked, trace, report, made),
+        Settings::TtlBounds(format, ttl, asked) => {
+            run_ttl_bounds(alloc, format, ttl, &asked, trace, report, made)
+        }
         Settings::Check(format) => run_check(alloc, format, trace, beside, report),
         Settings::Replay(format, asked) => run_replay(alloc, format, asked, trace, report),
         Settings::Curve(format) => run_curve(alloc, format, trace, report),

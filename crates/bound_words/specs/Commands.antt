@@ -91,7 +91,7 @@ needed_names command.Refine = codes "format" ∷ codes "window" ∷ []
 -- the operands that the command has beside them
 abbrev pub other_names : Command → List (List ℕ)
 other_names command.Bounds =
-    codes "block" ∷ codes "count" ∷ codes "idle" ∷ codes "replace" ∷ codes "objective" ∷ codes "mode" ∷ codes "window" ∷ codes "denominator" ∷ codes "warmup" ∷ codes "version" ∷ codes "writes" ∷ []
+    codes "block" ∷ codes "count" ∷ codes "idle" ∷ codes "ttl" ∷ codes "replace" ∷ codes "objective" ∷ codes "mode" ∷ codes "window" ∷ codes "denominator" ∷ codes "warmup" ∷ codes "version" ∷ codes "writes" ∷ []
 other_names command.Check = codes "block" ∷ codes "count" ∷ codes "idle" ∷ codes "replace" ∷ []
 other_names command.Replay = codes "block" ∷ codes "count" ∷ codes "idle" ∷ codes "replace" ∷ codes "warmup" ∷ codes "writes" ∷ codes "print" ∷ []
 other_names command.Curve = codes "block" ∷ codes "count" ∷ codes "idle" ∷ []

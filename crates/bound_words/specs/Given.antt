@@ -1,11 +1,11 @@
 -- What the operands give, and what is taken if they give nothing.
-use Rattle.std.specs.Prelude.{ℕ, ◌^◌, List, Bool, false, codes, unwrap_or, option_and_then, None}
+use Rattle.std.specs.Prelude.{ℕ, ◌^◌, List, Bool, false, if◌then◌else◌, codes, unwrap_or, option_and_then}
 use Rattle.std.specs.declared.option.Option.{Option}
-use Rattle.std.specs.Option.{option_map}
+use Rattle.std.specs.Option.{is_some, option_map}
 use Rattle.cache_model.specs.declared.objects.Objective.{Objective}
 use Rattle.cache_model.specs.declared.objects.Objective.TheVariants.{Object as Hits}
 use Rattle.bound_terms.specs.declared.modes.Mode.{Mode}
-use Rattle.bound_terms.specs.declared.modes.Mode.TheVariants.{Flow}
+use Rattle.bound_terms.specs.declared.modes.Mode.TheVariants.{Flow, Constant}
 use Rattle.bound_terms.specs.declared.modes.Window.{Window}
 use Rattle.bound_terms.specs.declared.modes.Window.TheVariants.{All as Whole}
 use Rattle.relaxation.specs.declared.denominators.DenominatorChoice.{DenominatorChoice}
@@ -28,9 +28,13 @@ block_given operands = unwrap_or (option_and_then block_of (value_given (codes "
 abbrev pub reads_given : List (List ℕ) → Bool
 reads_given operands = unwrap_or (option_and_then reads_of (value_given (codes "count") operands)) false
 
--- the time after which objects expire that the operands give, if they do
+-- how long objects stay fresh after they were asked for that the operands give, if it has an end
 abbrev pub idle_given : List (List ℕ) → Option ℕ
 idle_given operands = option_and_then whole_of (value_given (codes "idle") operands)
+
+-- how long they stay fresh after they were written, if it has an end
+abbrev pub ttl_given : List (List ℕ) → Option ℕ
+ttl_given operands = option_and_then whole_of (value_given (codes "ttl") operands)
 
 -- whether objects are replaced, and not where the operands don't say it
 abbrev pub replaced_given : List (List ℕ) → Bool
@@ -38,7 +42,7 @@ replaced_given operands = unwrap_or (option_and_then replaced_of (value_given (c
 
 -- how long objects stay fresh by the operands
 abbrev pub fresh_given : List (List ℕ) → Freshness
-fresh_given operands = record { idle = idle_given operands; ttl = None; replace = replaced_given operands }
+fresh_given operands = record { idle = idle_given operands; ttl = ttl_given operands; replace = replaced_given operands }
 
 -- the form of a layout whose objects stay fresh so long
 abbrev pub of_layout : Freshness → Layout → Format
@@ -68,10 +72,14 @@ window_given operands = unwrap_or (option_and_then window_of (value_given (codes
 abbrev pub width_given : List (List ℕ) → Option ℕ
 width_given operands = option_and_then width_of (value_given (codes "window") operands)
 
--- the mode that the operands give, and the flow where they give none
+-- the mode where the operands give none: the flow, or one price if objects expire a time after they were written
+abbrev pub usual_mode : List (List ℕ) → Mode
+usual_mode operands = if is_some (ttl_given operands) then Constant else Flow (window_given operands)
+
+-- the mode that the operands give, and the usual one where they give none
 abbrev pub mode_given : List (List ℕ) → Mode
 mode_given operands =
-    unwrap_or (option_and_then (λ value. mode_of value (window_given operands)) (value_given (codes "mode") operands)) (Flow (window_given operands))
+    unwrap_or (option_and_then (λ value. mode_of value (window_given operands)) (value_given (codes "mode") operands)) (usual_mode operands)
 
 -- the denominator that the operands give, and the usual one of the mode where they give none
 abbrev pub denominator_given : Mode → List (List ℕ) → DenominatorChoice

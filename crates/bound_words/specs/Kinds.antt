@@ -23,7 +23,7 @@ abbrev pub takes : Kind → List ℕ → Bool
 takes kind.Form value = is_some (layout_of value 4096 false)
 takes kind.Block value = is_some (block_of value)
 takes kind.Counted value = is_some (reads_of value)
-takes kind.Idle value = is_some (whole_of value)
+takes kind.Time value = is_some (whole_of value)
 takes kind.Replaced value = is_some (replaced_of value)
 takes kind.Capacity value = is_some (capacity_of value)
 takes kind.Capacities value = is_some (capacities_of value)
@@ -62,7 +62,7 @@ usual_kind name =
     if bytes_eq name (codes "format") then Some kind.Form
     else (if bytes_eq name (codes "block") then Some kind.Block
     else (if bytes_eq name (codes "count") then Some kind.Counted
-    else (if bytes_eq name (codes "idle") then Some kind.Idle
+    else (if bytes_eq name (codes "idle") || bytes_eq name (codes "ttl") then Some kind.Time
     else (if bytes_eq name (codes "replace") then Some kind.Replaced
     else (if bytes_eq name (codes "capacity") then Some kind.Capacity
     else (if bytes_eq name (codes "objective") then Some kind.Objective

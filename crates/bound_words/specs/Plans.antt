@@ -1,15 +1,16 @@
 -- What a plan asks for, and the plan of each command.
-use Rattle.std.specs.Prelude.{ℕ, ◌+◌, ◌^◌, ◌≤◌, List, length, ◌&&◌, Bool, false, if◌then◌else◌, codes, slice_get, Result, Ok, None, Some}
+use Rattle.std.specs.Prelude.{◌≡◌, ℕ, ◌+◌, ◌^◌, ◌≤◌, List, length, ◌&&◌, Bool, false, if◌then◌else◌, codes, slice_get, Result, Ok, None, Some}
 use Rattle.std.specs.declared.option.Option.{Option}
 use Rattle.std.specs.Str.{bytes_eq}
 use Rattle.cache_model.specs.declared.objects.Objective.{Objective}
 use Rattle.cache_model.specs.declared.version.TheConstants.{CERT_VERSION}
 use Rattle.relaxation.specs.declared.denominators.DenominatorChoice.{DenominatorChoice}
+use Rattle.trace_any.specs.declared.format.Format.{Format}
 use Rattle.trace_any.specs.Readings.{IsFormat}
 use Rattle.bound_terms.specs.declared.modes.Mode.{Mode}
 use Rattle.bound_words.specs.declared.plans.BoundSettings.{BoundSettings}
 use Rattle.bound_words.specs.declared.plans.Settings.{Settings}
-use Rattle.bound_words.specs.declared.plans.Settings.TheVariants.{Bounds, Check, Replay, Curve, CapacityCurve, Sweep, Judge, Demo, Upgrade, Refine}
+use Rattle.bound_words.specs.declared.plans.Settings.TheVariants.{Bounds, TtlBounds, Check, Replay, Curve, CapacityCurve, Sweep, Judge, Demo, Upgrade, Refine}
 use Rattle.bound_words.specs.declared.plans.Plan.{Plan}
 use Rattle.bound_words.specs.declared.plans.Plan.TheVariants as plan
 use Rattle.bound_words.specs.declared.commands.Command.{Command}
@@ -28,10 +29,15 @@ abbrev pub bound_settings : ℕ → Objective → Mode → DenominatorChoice →
 bound_settings capacity objective mode denominator warmup version writes =
     record { terms = record { objective = objective; capacity = capacity; warmup = warmup }; mode = mode; denominator = denominator; version = version; writes = writes }
 
+-- the settings of bounds of a trace of this form, with its time to live if it has one
+abbrev pub bounds_with : Option ℕ → Format → BoundSettings → Settings
+bounds_with None format asked = Bounds format asked
+bounds_with (Some ttl) format asked = TtlBounds format ttl asked
+
 -- the settings of a plan; in a demo every request counts, the certificate has the first version, and no written bytes are counted
 abbrev pub settings_of : Plan → Settings
 settings_of (plan.Bounds format capacity objective mode denominator warmup version writes) =
-    Bounds format (bound_settings capacity objective mode denominator warmup version writes)
+    bounds_with format.fresh.ttl format (bound_settings capacity objective mode denominator warmup version writes)
 settings_of (plan.Check format) = Check format
 settings_of (plan.Replay format capacity policy warmup writes flags) =
     Replay format (record { policy = policy; capacity = capacity; warmup = warmup; writes = writes; flags = flags })
@@ -48,6 +54,7 @@ settings_of (plan.Refine format width) = Refine format width
 -- the form of the trace and each setting are in their ranges
 abbrev pub AreSettingsInRange : Settings → Type 0
 AreSettingsInRange (Bounds format asked) = IsFormat format × AreBoundSettingsInRange asked
+AreSettingsInRange (TtlBounds format ttl asked) = IsFormat format × (format.fresh.ttl ≡ Some ttl) × AreBoundSettingsInRange asked
 AreSettingsInRange (Check format) = IsFormat format
 AreSettingsInRange (Replay format asked) = IsFormat format × AreReplaySettingsInRange asked
 AreSettingsInRange (Curve format) = IsFormat format

@@ -15,7 +15,7 @@ use Rattle.bound_words.specs.Commands.{command_named, has_operand, needed_names,
 use Rattle.bound_words.specs.Faults.{◌>>=◌, fault, passed}
 use Rattle.bound_words.specs.Named.{has_equals, name_of, value_of, value_given, place_given}
 use Rattle.bound_words.specs.Kinds.{takes_value}
-use Rattle.bound_words.specs.Given.{flags_given, reads_given, writes_given}
+use Rattle.bound_words.specs.Given.{flags_given, reads_given, ttl_given, writes_given}
 use Rattle.bound_words.specs.Plans.{plan_of_command}
 use Rattle.bound_words.specs.Values.{layout_of}
 use Rattle.trace_any.specs.Readings.{has_marks}
@@ -81,9 +81,9 @@ abbrev pub has_no_times : Option (List ℕ) → Bool
 has_no_times None = false
 has_no_times (Some format) = bytes_eq format (codes "arc")
 
--- a time after which objects expire is unknown beside a form of the trace without times
-abbrev pub idle_fault : ℕ → List (List ℕ) → Option WordFault
-idle_fault first operands = if has_no_times (value_given (codes "format") operands) then unknown_operand first (codes "idle") operands else None
+-- an operand that is a time is unknown beside a form of the trace without times
+abbrev pub time_fault : ℕ → List ℕ → List (List ℕ) → Option WordFault
+time_fault first name operands = if has_no_times (value_given (codes "format") operands) then unknown_operand first name operands else None
 
 -- whether a form of the trace is given whose ids have no size of their own: it is of blocks
 abbrev pub has_no_sizes : Option (List ℕ) → Bool
@@ -104,14 +104,24 @@ abbrev pub count_fault : ℕ → List (List ℕ) → Option WordFault
 count_fault first operands =
     if reads_given operands && has_no_writes (value_given (codes "format") operands) then unknown_operand first (codes "count") operands else None
 
--- whether a mode is given that takes no window
-abbrev pub takes_no_window : Option (List ℕ) → Bool
-takes_no_window None = false
-takes_no_window (Some mode) = not (bytes_eq mode (codes "flow"))
+-- whether the mode is given and is the flow
+abbrev pub is_flow : Option (List ℕ) → Bool
+is_flow None = false
+is_flow (Some mode) = bytes_eq mode (codes "flow")
+
+-- that objects expire a time after they were written is unknown beside the flow
+abbrev pub ttl_fault : ℕ → List (List ℕ) → Option WordFault
+ttl_fault first operands = if is_flow (value_given (codes "mode") operands) then unknown_operand first (codes "ttl") operands else None
+
+-- whether the mode takes no window: one that is given and isn't the flow, or one price, which is usual beside a ttl
+abbrev pub takes_no_window : Option (List ℕ) → Bool → Bool
+takes_no_window None has_ttl = has_ttl
+takes_no_window (Some mode) has_ttl = not (bytes_eq mode (codes "flow"))
 
 -- a window is unknown beside a mode that takes none
 abbrev pub window_fault : ℕ → List (List ℕ) → Option WordFault
-window_fault first operands = if takes_no_window (value_given (codes "mode") operands) then unknown_operand first (codes "window") operands else None
+window_fault first operands =
+    if takes_no_window (value_given (codes "mode") operands) (is_some (ttl_given operands)) then unknown_operand first (codes "window") operands else None
 
 -- that written bytes are counted is unknown beside flags that are printed
 abbrev pub writes_fault : ℕ → List (List ℕ) → Option WordFault
@@ -123,14 +133,19 @@ earlier None second = second
 earlier (Some first) None = Some first
 earlier (Some first) (Some second) = if nat_lt second.place first.place then Some second else Some first
 
+-- the first of the times for which objects stay fresh that the form of the trace doesn't have
+abbrev pub times_fault : ℕ → List (List ℕ) → Option WordFault
+times_fault first operands = earlier (time_fault first (codes "idle") operands) (time_fault first (codes "ttl") operands)
+
 -- the first operand that the form of the trace doesn't have
 abbrev pub form_fault : ℕ → List (List ℕ) → Option WordFault
-form_fault first operands = earlier (earlier (block_fault first operands) (idle_fault first operands)) (replace_fault first operands)
+form_fault first operands = earlier (earlier (block_fault first operands) (times_fault first operands)) (replace_fault first operands)
 
 -- the first operand that may not stand beside another
 abbrev pub beside_fault : ℕ → List (List ℕ) → Option WordFault
 beside_fault first operands =
-    earlier (earlier (earlier (form_fault first operands) (count_fault first operands)) (window_fault first operands)) (writes_fault first operands)
+    earlier (earlier (earlier (earlier (form_fault first operands) (count_fault first operands)) (ttl_fault first operands)) (window_fault first operands))
+    (writes_fault first operands)
 
 -- what operands ask for that are the words of a command from this place on, or the first fault in them
 abbrev pub plan_of_operands : Command → ℕ → List (List ℕ) → List (List ℕ) → Result Plan WordFault

@@ -102,6 +102,7 @@ impl Command {
                 "block",
                 "count",
                 "idle",
+                "ttl",
                 "replace",
                 "objective",
                 "mode",
@@ -179,8 +180,9 @@ impl Command {
         match self {
             Command::Bounds => &[
                 "bound_cli bounds TRACE CERT format=FORM capacity=BYTES [block=BYTES] [count=COUNTED]",
-                "    [idle=TIME] [replace=REPLACED] [objective=OBJECTIVE] [mode=MODE] [window=STEPS]",
-                "    [denominator=NUMBER] [warmup=REQUESTS] [version=VERSION] [writes=WRITTEN]",
+                "    [idle=TIME] [ttl=TIME] [replace=REPLACED] [objective=OBJECTIVE] [mode=MODE]",
+                "    [window=STEPS] [denominator=NUMBER] [warmup=REQUESTS] [version=VERSION]",
+                "    [writes=WRITTEN]",
             ],
             Command::Check => &[
                 "bound_cli check TRACE CERT format=FORM [block=BYTES] [count=COUNTED] [idle=TIME]",

@@ -5,7 +5,7 @@ ghost use Rattle.relaxation.specs.Denominators.{IsChoice};
 ghost use Rattle.trace_any.specs.Readings.{IsFormat};
 ghost use Rattle.bound_words.specs.Ranges.{IsModeInRange};
 ghost use Rattle.bound_words.specs.Given.{block_given, capacities_given, capacity_given, capacity_or_usual, delay_given, denominator_given, drawn_given, flags_given, format_given, fresh_given};
-ghost use Rattle.bound_words.specs.Given.{idle_given, long_warmup_given, mode_given, number_given, objective_given, objects_given, policies_given, policy_given, reads_given, replaced_given, requests_given, seed_given};
+ghost use Rattle.bound_words.specs.Given.{idle_given, long_warmup_given, mode_given, number_given, objective_given, objects_given, policies_given, policy_given, reads_given, replaced_given, requests_given, seed_given, ttl_given, usual_mode};
 ghost use Rattle.bound_words.specs.Given.{version_given, warmup_given, width_given, window_given, writes_given};
 ghost use Rattle.cache_model.specs.declared.version.TheConstants.{CERT_VERSION, SHORT_VERSION};
 
@@ -53,11 +53,18 @@ pub(crate) fn reads_given(operands: &[String]) -> bool
     }
 }
 
-// The time after which objects expire, if they do.
+// How long objects stay fresh after they were asked for, if it has an end.
 fn idle_given(operands: &[String]) -> Option<u64>
     ensures { result ≡ idle_given (map string_bytes operands.now) }
 {
     whole_of(value_given("idle", operands)?)
+}
+
+/// How long objects stay fresh after they were written, if it has an end.
+pub(crate) fn ttl_given(operands: &[String]) -> Option<u64>
+    ensures { result ≡ ttl_given (map string_bytes operands.now) }
+{
+    whole_of(value_given("ttl", operands)?)
 }
 
 // Whether objects are replaced by others of their id.
@@ -76,7 +83,7 @@ fn fresh_given(operands: &[String]) -> Freshness
 {
     Freshness {
         idle: idle_given(operands),
-        ttl: None,
+        ttl: ttl_given(operands),
         replace: replaced_given(operands),
     }
 }
@@ -135,14 +142,28 @@ pub(crate) fn width_given(operands: &[String]) -> Option<u32>
     width_of(value_given("window", operands)?)
 }
 
+// The mode if none is given: the flow, or one price if objects expire a time after they were written.
+fn usual_mode(operands: &[String]) -> Mode
+    ensures value { result ≡ usual_mode (map string_bytes operands.now) }
+    ensures in_range { IsModeInRange result }
+{
+    if ttl_given(operands).is_some() {
+        Mode::Constant
+    } else {
+        Mode::Flow {
+            window: window_given(operands),
+        }
+    }
+}
+
 pub(crate) fn mode_given(operands: &[String]) -> Mode
     ensures value { result ≡ mode_given (map string_bytes operands.now) }
     ensures in_range { IsModeInRange result }
 {
-    let window = window_given(operands);
+    let usual = usual_mode(operands);
     match value_given("mode", operands) {
-        Some(value) => mode_of(value, window).unwrap_or(Mode::Flow { window }),
-        None => Mode::Flow { window },
+        Some(value) => mode_of(value, window_given(operands)).unwrap_or(usual),
+        None => usual,
     }
 }
 

@@ -26,7 +26,7 @@ pub enum Kind {
     /// Whether all requests count, or reads alone.
     Counted,
     /// A time, in the unit of the trace.
-    Idle,
+    Time,
     /// Whether objects are replaced by others of their id.
     Replaced,
     /// A capacity, in bytes.
@@ -97,7 +97,7 @@ impl Kind {
             Kind::Form => layout_of(value, USUAL_BLOCK, false).is_some(),
             Kind::Block => block_of(value).is_some(),
             Kind::Counted => reads_of(value).is_some(),
-            Kind::Idle => whole_of(value).is_some(),
+            Kind::Time => whole_of(value).is_some(),
             Kind::Replaced => replaced_of(value).is_some(),
             Kind::Capacity => capacity_of(value).is_some(),
             Kind::Capacities => CapacityList::of(value).is_some(),
@@ -127,7 +127,7 @@ impl Kind {
             Kind::Form => Values::Words(&["webcache", "arc", "msr", "oracle"]),
             Kind::Block => up_to(MOST_BLOCK),
             Kind::Counted => Values::Words(&["all", "reads"]),
-            Kind::Idle => from_0(u64::MAX),
+            Kind::Time => from_0(u64::MAX),
             Kind::Replaced => Values::Words(&["no", "yes"]),
             Kind::Capacity => up_to(MOST_CAPACITY),
             Kind::Capacities => Values::Capacities,
@@ -180,8 +180,8 @@ fn usual_kind(name: &str) -> Option<Kind>
         Some(Kind::Block)
     } else if is(name, "count") {
         Some(Kind::Counted)
-    } else if is(name, "idle") {
-        Some(Kind::Idle)
+    } else if is(name, "idle") || is(name, "ttl") {
+        Some(Kind::Time)
     } else if is(name, "replace") {
         Some(Kind::Replaced)
     } else if is(name, "capacity") {

@@ -4,7 +4,7 @@
 //! definitions see the fields as they are, and the ranges are the invariant of a model and no part of its value, so that
 //! a definition takes settings from any plan.
 ghost use Rattle.std.specs.Prelude.{◌≡◌};
-ghost use Rattle.bound_words.specs.Plans.{IsPlanInRange, bound_settings, settings_of};
+ghost use Rattle.bound_words.specs.Plans.{IsPlanInRange, bound_settings, bounds_with, settings_of};
 ghost use Rattle.bound_words.specs.Ranges.{AreBoundSettingsInRange, AreDrawSettingsInRange, AreReplaySettingsInRange};
 
 use crate::capacities::CapacityList;
@@ -146,6 +146,8 @@ pub struct DrawSettings {
 #[derive(Drop)]
 pub enum Settings<'a> {
     Bounds(Format, BoundSettings),
+    /// Bounds with a time to live, in the unit of the trace's times.
+    TtlBounds(Format, u64, BoundSettings),
     Check(Format),
     Replay(Format, ReplaySettings),
     Curve(Format),
@@ -255,6 +257,16 @@ impl DrawSettings {
     }
 }
 
+// Those of bounds, with the time to live of the form if it has one.
+fn bounds_with<'a>(format: Format, asked: BoundSettings) -> Settings<'a>
+    ensures { result ≡ bounds_with format.fresh.ttl format asked }
+{
+    match format.fresh.ttl {
+        Some(ttl) => Settings::TtlBounds(format, ttl, asked),
+        None => Settings::Bounds(format, asked),
+    }
+}
+
 /// The settings of a plan. In a demo every request counts, the certificate has the first version, and no written bytes are
 /// counted.
 pub fn settings_of(plan: Plan<'_>) -> Settings<'_>
@@ -271,7 +283,7 @@ pub fn settings_of(plan: Plan<'_>) -> Settings<'_>
             warmup,
             version,
             writes,
-        } => Settings::Bounds(
+        } => bounds_with(
             format,
             BoundSettings::new(
                 capacity,

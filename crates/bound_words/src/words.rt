@@ -5,11 +5,11 @@ ghost use Rattle.bound_words.specs.Faults.{passed};
 ghost use Rattle.bound_words.specs.Plans.{IsPlanInRange};
 ghost use Rattle.bound_words.specs.Commands.{operands_of, places_of};
 ghost use Rattle.bound_words.specs.Words.{HasNeeded, beside_fault, block_fault, command_asked, command_of, command_with};
-ghost use Rattle.bound_words.specs.Words.{count_fault, earlier, form_fault, has_no_writes, idle_fault, operand_fault, operands_fault};
-ghost use Rattle.bound_words.specs.Words.{path, paths, plan, plan_of_operands, replace_fault, unknown_operand, window_fault, writes_fault};
+ghost use Rattle.bound_words.specs.Words.{count_fault, earlier, form_fault, has_no_writes, operand_fault, operands_fault, time_fault};
+ghost use Rattle.bound_words.specs.Words.{path, paths, plan, plan_of_operands, replace_fault, takes_no_window, times_fault, ttl_fault, unknown_operand, window_fault, writes_fault};
 
 use crate::commands::{Command, command_named, has_operand};
-use crate::given::{flags_given, reads_given, writes_given};
+use crate::given::{flags_given, reads_given, ttl_given, writes_given};
 use crate::kinds::takes_value;
 use crate::making::plan_of_command;
 use crate::named::{has_equals, name_of, place_given, value_given, value_of};
@@ -148,15 +148,24 @@ fn block_fault(first: u64, operands: &[String]) -> Option<WordFault>
     }
 }
 
-// A time after which objects expire may stand only if the lines of the trace have times.
-fn idle_fault(first: u64, operands: &[String]) -> Option<WordFault>
+// An operand that is a time may stand only if the lines of the trace have times.
+fn time_fault(first: u64, name: &str, operands: &[String]) -> Option<WordFault>
     requires { first ≤ 10 }
-    ensures { result ≡ idle_fault first (map string_bytes operands.now) }
+    ensures { result ≡ time_fault first name.now (map string_bytes operands.now) }
 {
     match value_given("format", operands) {
-        Some(format) if is(format, "arc") => unknown_operand(first, "idle", operands),
+        Some(format) if is(format, "arc") => unknown_operand(first, name, operands),
         _ => None,
     }
+}
+
+// The first of the times for which objects stay fresh that may not stand.
+fn times_fault(first: u64, operands: &[String]) -> Option<WordFault>
+    requires { first ≤ 10 }
+    ensures { result ≡ times_fault first (map string_bytes operands.now) }
+{
+    let of_idle = time_fault(first, "idle", operands);
+    earlier(of_idle, time_fault(first, "ttl", operands))
 }
 
 // That objects are replaced may stand only if the trace isn't of blocks.
@@ -196,15 +205,36 @@ fn count_fault(first: u64, operands: &[String]) -> Option<WordFault>
     None
 }
 
-// A window may stand only if the mode isn't another one than flow.
+// That objects expire a time after they were written may stand only if the mode isn't flow.
+fn ttl_fault(first: u64, operands: &[String]) -> Option<WordFault>
+    requires { first ≤ 10 }
+    ensures { result ≡ ttl_fault first (map string_bytes operands.now) }
+{
+    match value_given("mode", operands) {
+        Some(mode) if is(mode, "flow") => unknown_operand(first, "ttl", operands),
+        _ => None,
+    }
+}
+
+// Whether the mode takes no window: one that is given and isn't flow, or one price, which is usual beside a ttl.
+fn takes_no_window(mode: Option<&str>, has_ttl: bool) -> bool
+    ensures { result ≡ takes_no_window (option_copied mode.entry) has_ttl }
+{
+    match mode {
+        Some(mode) => !is(mode, "flow"),
+        None => has_ttl,
+    }
+}
+
+// A window may stand only if the mode takes one.
 fn window_fault(first: u64, operands: &[String]) -> Option<WordFault>
     requires { first ≤ 10 }
     ensures { result ≡ window_fault first (map string_bytes operands.now) }
 {
-    match value_given("mode", operands) {
-        Some(mode) if !is(mode, "flow") => unknown_operand(first, "window", operands),
-        _ => None,
+    if takes_no_window(value_given("mode", operands), ttl_given(operands).is_some()) {
+        return unknown_operand(first, "window", operands);
     }
+    None
 }
 
 // That written bytes are counted is unknown beside flags that are printed.
@@ -234,7 +264,7 @@ fn form_fault(first: u64, operands: &[String]) -> Option<WordFault>
     requires { first ≤ 10 }
     ensures { result ≡ form_fault first (map string_bytes operands.now) }
 {
-    let of_times = earlier(block_fault(first, operands), idle_fault(first, operands));
+    let of_times = earlier(block_fault(first, operands), times_fault(first, operands));
     earlier(of_times, replace_fault(first, operands))
 }
 
@@ -244,7 +274,8 @@ fn beside_fault(first: u64, operands: &[String]) -> Option<WordFault>
     ensures { result ≡ beside_fault first (map string_bytes operands.now) }
 {
     let of_trace = earlier(form_fault(first, operands), count_fault(first, operands));
-    let of_mode = earlier(of_trace, window_fault(first, operands));
+    let of_ttl = earlier(of_trace, ttl_fault(first, operands));
+    let of_mode = earlier(of_ttl, window_fault(first, operands));
     earlier(of_mode, writes_fault(first, operands))
 }
 

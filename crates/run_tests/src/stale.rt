@@ -43,6 +43,60 @@ const BOUNDS: [Row<'static>; 3] = [
     },
 ];
 
+// One object of 2 bytes, every two seconds. A hit does not renew it, so that every other request is one.
+const WRITTEN: Row<'static> = Row {
+    shows: "what was written longer ago than the ttl is no hit, and is written anew",
+    words: "bounds t c format=webcache capacity=10 mode=infinite ttl=3",
+    trace: b"0 1 2\n2 1 2\n4 1 2\n6 1 2\n8 1 2\n",
+    report: Bounds(
+        "5 1 0, 10 object, ttl 3, stale 0, infinite form plain, 2 5 1, 4, 2/1 2, 0/1, 2",
+    ),
+    made: b"cache-bound-certificate 1\nobjective object\ncapacity 10\nrequests 5\nunit 2\n\
+denominator 1\nform plain\nupper 2\nflow 0\nlower 2\nrecords\n0 1 0\n0 1 0\n0 1 0\n0 1 0\n0 0 0\nend\n",
+    ..GOOD
+};
+
+const WRITTEN_BOUNDS: [Row<'static>; 4] = [
+    WRITTEN,
+    Row {
+        shows: "one price is sought if no mode is given, and the schedule writes twice",
+        words: "bounds t c format=webcache capacity=10 ttl=3 writes=count",
+        report: Bounds(
+            "5 1 0, 10 object, ttl 3, stale 0, constant price 0 form plain, 2 5 281474976710656, 4, 562949953421312/281474976710656 2, 0/281474976710656, 2, writes 4",
+        ),
+        made: b"cache-bound-certificate 1\nobjective object\ncapacity 10\nrequests 5\nunit 2\n\
+denominator 281474976710656\nform plain\nupper 562949953421312\nflow 0\nlower 2\nrecords\n\
+0 1 0\n0 1 0\n0 1 0\n0 1 0\n0 0 0\nend\n",
+        ..WRITTEN
+    },
+    Row {
+        shows: "a request that only fills renews what it keeps",
+        words: "bounds t c format=webcache capacity=10 mode=infinite ttl=3 count=reads",
+        trace: b"0 7 1 r\n1 8 1 r\n3 7 1 r\n4 7 1 w\n4 8 1 r\n6 7 1 r\n9 8 1 r\n9 7 1 r\n",
+        report: Bounds(
+            "8 2 0, counted 7, 10 object, ttl 3, stale 1, infinite form plain, 1 10 1, 4, 3/1 3, 0/1, 3",
+        ),
+        made: b"cache-bound-certificate 1\nobjective object\ncapacity 10\nrequests 8\nunit 1\n\
+denominator 1\nform plain\nupper 3\nflow 0\nlower 3\nrecords\n\
+0 1 0\n0 1 0\n0 0 0\n0 1 0\n0 0 0\n0 1 0\n0 0 0\n0 0 0\nend\n",
+        ..WRITTEN
+    },
+    Row {
+        shows: "a time that goes back is no time passed",
+        words: "bounds t c format=webcache capacity=10 mode=infinite ttl=3",
+        trace: b"5 1 2\n3 1 2\n9 1 2\n",
+        report: Bounds(
+            "3 1 0, 10 object, ttl 3, late 1, stale 1, infinite form plain, 2 5 1, 1, 1/1 1, 0/1, 1",
+        ),
+        ..EXPIRED
+    },
+];
+
+#[test]
+fn bounds_of_objects_that_expire_since_they_were_written(rt: HostRuntime) {
+    check_all(rt.alloc(), &WRITTEN_BOUNDS).expect(&rt, "a row");
+}
+
 #[test]
 fn bounds_of_objects_that_expire(rt: HostRuntime) {
     check_all(rt.alloc(), &BOUNDS).expect(&rt, "a row");

@@ -30,9 +30,14 @@ const RULES: [Freshness; 5] = [
         replace: true,
     },
     Freshness {
+        idle: Some(1),
+        ttl: None,
+        replace: true,
+    },
+    Freshness {
         idle: Some(2),
         ttl: Some(1),
-        replace: true,
+        replace: false,
     },
 ];
 

@@ -54,11 +54,12 @@ fn push_line(text: &mut String, names: &[&str], words: &str) -> Result<(), NoMem
 }
 
 // Whether a line has its name with it: that the certificate is valid, how many requests count, were late or were stale, the
-// time after which objects expire, the written bytes, or the warm-up.
+// times for which objects stay fresh, the written bytes, or the warm-up.
 fn is_named(words: &str) -> bool {
     words == "valid"
         || words.starts_with("counted ")
         || words.starts_with("idle ")
+        || words.starts_with("ttl ")
         || words.starts_with("late ")
         || words.starts_with("stale ")
         || words.starts_with("writes ")

@@ -6,7 +6,7 @@ use Rattle.bound_report.specs.Rendering.{rendered}
 use Rattle.bound_report.specs.Reports.{bound_lines}
 use Rattle.freshness.specs.Seen.{noted_of}
 use Rattle.trace_any.specs.Readers.{Notes}
-use Rattle.bound_run.specs.Countings.{counting_of}
+use Rattle.run_counts.specs.Countings.{counting_of}
 use Rattle.bound_run.specs.Records.{records_in}
 use Rattle.bound_run.specs.Reports.{written_by}
 use Rattle.bound_run.proofs.RecordsOf.{keeps_of-records, length-records}

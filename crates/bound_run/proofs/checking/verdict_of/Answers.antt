@@ -1,7 +1,7 @@
 use Rattle.std.proofs.Common.{refl}
 use Rattle.bound_io.specs.Devices.{Device, seen}
 use Rattle.cert_checker.specs.Whole.{first_inputs, last_inputs}
-use Rattle.bound_run.specs.Countings.{counting_found}
+use Rattle.run_counts.specs.Countings.{counting_found}
 use Rattle.bound_run.proofs.Judged.{refused, said}
 use Rattle.bound_run.proofs.checking.verdict_of.Goals as goal
 

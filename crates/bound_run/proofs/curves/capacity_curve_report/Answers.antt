@@ -2,7 +2,7 @@ use Rattle.std.proofs.Common.{◌≡◌, ◌∙◌, ap}
 use Rattle.std.proofs.lemmas.Result.{IfOk-weaker}
 use Rattle.bound_report.specs.CapacityCurves.{capacity_curve_lines}
 use Rattle.bound_report.specs.Rendering.{rendered}
-use Rattle.bound_run.specs.Countings.{counting_from}
+use Rattle.run_counts.specs.Countings.{counting_from}
 use Rattle.freshness.specs.Seen.{noted_of}
 use Rattle.trace_any.specs.Readers.{Notes}
 use Rattle.bound_run.specs.CapacityCurves.{IsCapacityCurveText, capacity_facts}

@@ -1,5 +1,5 @@
 use Rattle.std.proofs.Common.{◌≡◌, ◌∙◌, ap}
-use Rattle.bound_run.specs.Countings.{counting_from}
+use Rattle.run_counts.specs.Countings.{counting_from}
 use Rattle.freshness.specs.Seen.{noted_of}
 use Rattle.trace_any.specs.Readers.{Notes}
 use Rattle.bound_run.proofs.CurveShown.{curve_shown}

@@ -7,7 +7,7 @@ use Rattle.bound_report.specs.Rendering.{rendered}
 use Rattle.cache_model.specs.declared.objects.Objective.TheVariants.{Object as Hits, Bytes}
 use Rattle.freshness.specs.Seen.{noted_of}
 use Rattle.trace_any.specs.Readers.{Notes}
-use Rattle.bound_run.specs.Countings.{counting_from}
+use Rattle.run_counts.specs.Countings.{counting_from}
 use Rattle.bound_run.specs.Judgements.{claimed_by, judged_facts, judged_report}
 use Rattle.bound_run.proofs.judging.judged_report.Goals as goal
 

@@ -3,7 +3,7 @@ use Rattle.cert_checker.specs.declared.verdict.Verdict.{Verdict}
 use Rattle.freshness.specs.Seen.{noted_of}
 use Rattle.trace_any.specs.Readers.{Notes}
 use Rattle.bound_run.specs.Refined.{verdict_on, with_upper}
-use Rattle.bound_run.specs.Countings.{counting_of}
+use Rattle.run_counts.specs.Countings.{counting_of}
 use Rattle.bound_run.specs.Reports.{refined_report}
 use Rattle.bound_run.proofs.Refining.{certificate, refined_texts}
 use Rattle.bound_run.proofs.refined.texts_of_kept.Goals as goal

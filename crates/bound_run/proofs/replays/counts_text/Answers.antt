@@ -5,7 +5,7 @@ use Rattle.bound_report.specs.Replays.{replay_lines}
 use Rattle.bound_words.specs.declared.plans.ReplaySettings.{ReplaySettings}
 use Rattle.freshness.specs.Seen.{noted_of}
 use Rattle.trace_any.specs.Readers.{Notes}
-use Rattle.bound_run.specs.Countings.{counting_from}
+use Rattle.run_counts.specs.Countings.{counting_from}
 use Rattle.bound_run.specs.Replays.{IsCountsText, replay_facts}
 use Rattle.bound_run.proofs.replays.counts_text.Goals as goal
 

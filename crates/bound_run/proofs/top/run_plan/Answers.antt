@@ -7,6 +7,9 @@ returns-in-Err-clause-ends g c = rw c.in-Err.is (c.refuse.ensures.status, c.refu
 pub returns-in-Bounds-clause-ends : goal.returns-in-Bounds-clause-ends
 returns-in-Bounds-clause-ends g c = rw (c.in-Ok.is, ← c.in-Bounds.ensures) (c.run_bounds.ensures.ends, c.run_bounds.ensures.source, (refl, refl))
 
+pub returns-in-TtlBounds-clause-ends : goal.returns-in-TtlBounds-clause-ends
+returns-in-TtlBounds-clause-ends g c = rw (c.in-Ok.is, ← c.in-TtlBounds.ensures) (c.run_ttl_bounds.ensures.ends, c.run_ttl_bounds.ensures.source, (refl, refl))
+
 pub returns-in-Check-clause-ends : goal.returns-in-Check-clause-ends
 returns-in-Check-clause-ends g c = rw (c.in-Ok.is, ← c.in-Check.ensures) (c.run_check.ensures.ends, c.run_check.ensures.trace_source, c.run_check.ensures.cert_source, (refl, refl))
 
@@ -39,6 +42,9 @@ returns-in-Err-clause-none_failed g c = λ is. absurd (c.refuse.ensures.never_do
 
 pub returns-in-Bounds-clause-none_failed : goal.returns-in-Bounds-clause-none_failed
 returns-in-Bounds-clause-none_failed g c = λ is. let h = c.run_bounds.ensures.none_failed is in record { trace = h.0; beside = refl; report = h.1; made = h.2 }
+
+pub returns-in-TtlBounds-clause-none_failed : goal.returns-in-TtlBounds-clause-none_failed
+returns-in-TtlBounds-clause-none_failed g c = λ is. let h = c.run_ttl_bounds.ensures.none_failed is in record { trace = h.0; beside = refl; report = h.1; made = h.2 }
 
 pub returns-in-Check-clause-none_failed : goal.returns-in-Check-clause-none_failed
 returns-in-Check-clause-none_failed g c = λ is. let h = c.run_check.ensures.none_failed is in record { trace = h.0; beside = h.1; report = h.2; made = refl }

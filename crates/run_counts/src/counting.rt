@@ -5,7 +5,7 @@ ghost use Rattle.cache_model.specs.Claim.{counts_past};
 ghost use Rattle.cache_model.specs.Objects.{numbers_of};
 ghost use Rattle.trace_any.specs.Counts.{counted_in, stale_in};
 ghost use Rattle.freshness.specs.Seen.{noted_of};
-ghost use Rattle.bound_run.specs.Countings.{counting_found, counting_from, counting_of};
+ghost use Rattle.run_counts.specs.Countings.{counting_found, counting_from, counting_of};
 
 use bit_list::BitList;
 use bound_report::{Counting, StaleCounts};
@@ -65,12 +65,7 @@ fn stale_in(format: Format, trace: &Trace, noted: &StaleRequests) -> Option<u32>
 }
 
 /// How the requests of a trace of this form count from a warm-up on.
-pub(crate) fn counting_from(
-    format: Format,
-    warmup: u32,
-    trace: &Trace,
-    noted: &StaleRequests,
-) -> Counting
+pub fn counting_from(format: Format, warmup: u32, trace: &Trace, noted: &StaleRequests) -> Counting
     ensures { result ≡ counting_from format warmup trace.now (noted_of noted.now) }
 {
     Counting {
@@ -86,7 +81,7 @@ pub(crate) fn counting_from(
 }
 
 /// How the requests of a trace of this form count from the warm-up of a certificate on.
-pub(crate) fn counting_of(
+pub fn counting_of(
     format: Format,
     header: &Header,
     trace: &Trace,
@@ -98,14 +93,14 @@ pub(crate) fn counting_of(
 }
 
 /// Bytes that are written, if they are to be counted.
-pub(crate) fn if_counted(counted: bool, written: u128) -> Option<u128>
+pub fn if_counted(counted: bool, written: u128) -> Option<u128>
     ensures { result ≡ (if counted then Some written else None) }
 {
     counted.then_some(written)
 }
 
-/// How they count as a check found it.
-pub(crate) fn counting_found(format: Format, passed: &Passed) -> Counting
+/// How they count as a check of a certificate found it.
+pub fn counting_found(format: Format, passed: &Passed) -> Counting
     ensures { result ≡ counting_found format passed.now }
 {
     Counting {
