@@ -227,12 +227,19 @@ fn missing(alloc: Global, words: Words<'_>, place: u64) -> Result<String, AllocE
     format!(in alloc; "{name} is missing: {values}")
 }
 
+// Why a ttl may not stand beside the others.
+fn unsuited_ttl(alloc: Global, words: Words<'_>, word: &str) -> Result<String, AllocError> {
+    if words.are_of_arc() {
+        return format!(in alloc; "{word}: a trace of format=arc has no times");
+    }
+    format!(in alloc; "{word}: it goes with mode=constant or mode=infinite alone")
+}
+
 // Why an operand may not stand beside the others.
 fn unsuited(alloc: Global, words: Words<'_>, word: &str) -> Result<String, AllocError> {
     let command = words.command_word();
     let names = words.operand_names();
-    let name = name_of(word);
-    match name {
+    match name_of(word) {
         "block" if names.contains(&"block") => {
             format!(in alloc; "{word}: a block goes with format=msr alone")
         }
@@ -241,12 +248,10 @@ fn unsuited(alloc: Global, words: Words<'_>, word: &str) -> Result<String, Alloc
                 "{word}: reads are told apart with format=webcache or format=msr alone"
             )
         }
-        "idle" | "ttl" if names.contains(&name) && words.are_of_arc() => {
+        "idle" if names.contains(&"idle") => {
             format!(in alloc; "{word}: a trace of format=arc has no times")
         }
-        "ttl" if names.contains(&"ttl") => {
-            format!(in alloc; "{word}: it goes with mode=constant or mode=infinite alone")
-        }
+        "ttl" if names.contains(&"ttl") => unsuited_ttl(alloc, words, word),
         "replace" if names.contains(&"replace") => format!(in alloc;
             "{word}: objects are replaced with format=webcache or format=oracle alone"
         ),
