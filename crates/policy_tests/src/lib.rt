@@ -1,5 +1,5 @@
-//! Tests of replays over small traces: of policy_model, replay_core, replay_fresh, replay_recency, replay_rank, replay_queues,
-//! replay_tinylfu, belady_laws, stack_curve, byte_curve and hit_judge. They stand apart, since a crate with tests is proved twice.
+//! Tests of replays over small traces: of policy_model, replay_core, replay_fresh, replay_ttl, replay_recency, replay_rank,
+//! replay_queues, replay_tinylfu, belady_laws, stack_curve, byte_curve and hit_judge. They stand apart, since a crate with tests is proved twice.
 #![tactic(auto)]
 
 #[cfg(test)]
@@ -20,6 +20,8 @@ mod replay_fresh_rows;
 mod replay_rank_gdsf98;
 #[cfg(test)]
 mod replay_tinylfu_rows;
+#[cfg(test)]
+mod replay_ttl_rows;
 #[cfg(test)]
 mod rows;
 #[cfg(test)]

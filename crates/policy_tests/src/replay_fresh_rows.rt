@@ -120,8 +120,8 @@ fn stale_of(rt: &impl Abort, alloc: Global, requests: &[Asked]) -> BitList {
     stale
 }
 
-// Whether each stale request of the trace only fills.
-fn only_fill(trace: &Trace, stale: &BitList) -> bool
+/// Whether each stale request of the trace only fills.
+pub fn only_fill(trace: &Trace, stale: &BitList) -> bool
     ensures { result ≡ true → OnlyFill (bits_of stale.now) trace.now.fills trace.now.objects }
 {
     for t in 0..trace.len() {
